@@ -1,0 +1,5 @@
+pub mod Choice
+pub mod Search
+pub mod Range
+pub mod Lists
+pub mod Order

@@ -1,0 +1,1 @@
+// General facts: searches, tests over ranges, counting, lists. No functions.

@@ -1,0 +1,4 @@
+pub mod Limits
+pub mod Denoted
+pub mod Refused
+pub mod Good

@@ -1,0 +1,10 @@
+pub mod Runs
+pub mod Sources
+pub mod Unwinding
+pub mod Judged
+pub mod Same
+pub mod Needed
+pub mod Rounds
+pub mod Reached
+pub mod Ascending
+pub mod NeededList

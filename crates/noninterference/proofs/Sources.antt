@@ -1,0 +1,89 @@
+-- Sources, one action on, and where the two kinds of purge agree (Lemmas 6 and 7, Theorem 9).
+-- Assumes nothing.
+use mathlib.Core.Path.{_≡_, refl, sym, subst}
+use mathlib.Core.Logic.{_⊎_, inl, inr, ⊎-elim}
+use mathlib.Core.Bool.{Bool, true, false}
+use mathlib.Core.List.{List, [], _∷_}
+use Prim.Native.Nat.{ℕ}
+use Rattle.laws.specs.Choice.{choose}
+use Rattle.laws.specs.Lists.{any, elem}
+use Rattle.laws.proofs.Tests.{by-test, not-both, agree}
+use Rattle.laws.proofs.Lists.{elem-here, elem-there, elem-cases, elem-one, any-true, any-at}
+use Rattle.noninterference.specs.Purge.{Policy, Kind, plain, intransitive, purge, sources, keeps}
+use Rattle.noninterference.specs.Secure.{Transitive}
+
+module _ (owner : ℕ → ℕ) (interferes : Policy) (u : ℕ) where
+  -- the box purged for is a source
+  pub source-self : elem u (sources owner interferes u []) ≡ true
+  unfolding sources
+  source-self = elem-here u []
+
+  module _ (a : ℕ) (r : List ℕ) where
+    -- a source stays one when an action is put in front
+    pub source-stays : (v : ℕ) → elem v (sources owner interferes u r) ≡ true → elem v (sources owner interferes u (a ∷ r)) ≡ true
+    unfolding sources choose
+    source-stays v h =
+        by-test (any (interferes (owner a)) (sources owner interferes u r))
+        (λ e. rw e (elem-there v (owner a) (sources owner interferes u r) h))
+        (λ e. rw e h)
+
+    -- what putting it in front adds
+    source-added : any (interferes (owner a)) (sources owner interferes u r) ≡ true →
+        sources owner interferes u (a ∷ r) ≡ owner a ∷ sources owner interferes u r
+    unfolding sources choose
+    source-added e = rw e
+
+    pub source-new : (v : ℕ) → elem v (sources owner interferes u (a ∷ r)) ≡ true →
+        (elem v (sources owner interferes u r) ≡ true)
+        ⊎ ((v ≡ owner a) × (any (interferes (owner a)) (sources owner interferes u r) ≡ true))
+    unfolding sources choose
+    source-new v h =
+        by-test (any (interferes (owner a)) (sources owner interferes u r))
+        (λ e. ⊎-elim (λ q. inr (q, e)) (λ q. inl q) (elem-cases v (owner a) _ (rw e at h)))
+        (λ e. inl (rw e at h))
+
+    -- an action whose box interferes with a source is kept, and one that is dropped interferes with none
+    pub kept-of : any (interferes (owner a)) (sources owner interferes u r) ≡ true → keeps intransitive owner interferes u a r ≡ true
+    unfolding keeps
+    kept-of e = subst (λ l. elem (owner a) l ≡ true) (sym (source-added e)) (elem-here (owner a) (sources owner interferes u r))
+
+    pub dropped-of : keeps intransitive owner interferes u a r ≡ false → any (interferes (owner a)) (sources owner interferes u r) ≡ false
+    dropped-of e = by-test (any (interferes (owner a)) (sources owner interferes u r)) (λ q. not-both (kept-of q) e) (λ q. q)
+
+    -- where its box interferes with itself, that is all there is to it
+    pub keeps-is : interferes (owner a) (owner a) ≡ true →
+        keeps intransitive owner interferes u a r ≡ any (interferes (owner a)) (sources owner interferes u r)
+    unfolding keeps
+    keeps-is self =
+        agree _ _
+        (λ h. ⊎-elim (λ q. any-true _ _ (owner a) q self) (λ q. q .1) (source-new (owner a) h))
+        kept-of
+
+  -- the box purged for stays a source
+  pub source-first : (r : List ℕ) → elem u (sources owner interferes u r) ≡ true
+  source-first [] = source-self
+  source-first (a ∷ r) = source-stays a r u (source-first r)
+
+  -- Lemma 6
+  pub source-interferes : Transitive interferes → interferes u u ≡ true → (r : List ℕ) (v : ℕ) →
+      elem v (sources owner interferes u r) ≡ true → interferes v u ≡ true
+  unfolding sources
+  source-interferes trans self [] v h = subst (λ x. interferes x u ≡ true) (sym (elem-one v u h)) self
+  source-interferes trans self (a ∷ r) v h =
+      ⊎-elim (λ q. source-interferes trans self r v q)
+      (λ q. let f = any-at (interferes (owner a)) (sources owner interferes u r) (q .1) in
+      subst (λ x. interferes x u ≡ true) (sym (q .0)) (trans (owner a) (f .0) u (f .2) (source-interferes trans self r (f .0) (f .1))))
+      (source-new a r v h)
+
+  -- Lemma 7
+  keep-agrees : Transitive interferes → interferes u u ≡ true → (a : ℕ) (r : List ℕ) →
+      keeps intransitive owner interferes u a r ≡ keeps plain owner interferes u a r
+  unfolding keeps
+  keep-agrees trans self a r =
+      agree _ _ (λ h. source-interferes trans self (a ∷ r) (owner a) h) (λ h. kept-of a r (any-true _ _ u (source-first r) h))
+
+  pub purges-agree : Transitive interferes → interferes u u ≡ true → (r : List ℕ) →
+      purge (keeps intransitive owner interferes u) r ≡ purge (keeps plain owner interferes u) r
+  unfolding purge
+  purges-agree trans self [] = refl
+  purges-agree trans self (a ∷ r) = rw (keep-agrees trans self a r, purges-agree trans self r)

@@ -1,0 +1,11 @@
+pub mod Machine
+pub mod Purge
+pub mod Secure
+pub mod Conditions
+pub mod Place
+pub mod Judged
+pub mod Same
+pub mod Needed
+pub mod Depth
+pub mod Reached
+pub mod Rounds
