@@ -5,3 +5,5 @@ pub mod Range
 pub mod Count
 pub mod Lists
 pub mod Cells
+pub mod Filled
+pub mod Loops

@@ -3,3 +3,4 @@ pub mod Search
 pub mod Range
 pub mod Lists
 pub mod Order
+pub mod Filled

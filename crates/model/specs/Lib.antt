@@ -1,4 +1,5 @@
 pub mod Limits
+pub mod Made
 pub mod Denoted
 pub mod Refused
 pub mod Good

@@ -3,9 +3,6 @@ use borrow.Author.Needs.{needs}
 use Rattle.laws.proofs.Cells.{beyond}
 use Rattle.model.proofs.at.Statement.{statement}
 use Rattle.model.proofs.at.Tie as tie
-use Rattle.model.proofs.at.Reads as reads
-use Rattle.model.proofs.at.Lts as lts
-use Rattle.model.proofs.wide16.Reads as wide16-reads
 
 mul-wide16 : tie.Need-mul-wide16
 mul-wide16 c = search needs

@@ -1,10 +1,8 @@
+-- `model::owner` meets its contract. Assumes nothing.
 use borrow.Author.Needs.{needs}
 use Rattle.laws.proofs.Cells.{beyond}
 use Rattle.model.proofs.owner.Statement.{statement}
 use Rattle.model.proofs.owner.Tie as tie
-use Rattle.model.proofs.owner.Reads as reads
-use Rattle.model.proofs.owner.Lts as lts
-use Rattle.model.proofs.wide8.Reads as wide8-reads
 
 shared-slice-read-wide8 : tie.Need-shared-slice-read-wide8
 shared-slice-read-wide8 c = search needs

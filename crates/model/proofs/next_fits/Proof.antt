@@ -1,0 +1,59 @@
+-- `model::next_fits` meets its contract. Assumes nothing.
+use Rattle.laws.proofs.Cells.{row}
+use Prim.Native.Nat.{_≤_, _-_, _+_, _*_}
+use native.Mathlib.Omega.{arith}
+use lib.Dec.{ltb}
+use lib.ListN.{getD}
+use Rattle.laws.specs.Range.{every, Held}
+use Rattle.model.specs.Limits.{STATES, ACTIONS}
+use Rattle.laws.proofs.Loops.{each}
+use Rattle.model.specs.Refused.{nextFits}
+use Rattle.model.proofs.next_fits.Statement.{statement}
+use Rattle.model.proofs.next_fits.Tie as tie
+
+abbrev Inv-states : tie.InvT-states
+Inv-states next states actions s₀ s = (s ≤ states) × Held s (λ s. every actions (λ a. ltb (getD next (s * actions + a) 0) states))
+
+abbrev μ-states : tie.MeasureT-states
+μ-states next states actions s₀ s = states - s
+
+states-holds : tie.Need-states-holds Inv-states μ-states
+states-holds c = search each
+
+mul-row-fits : tie.Need-mul-row-fits Inv-states μ-states
+mul-row-fits c = let h = row STATES ACTIONS (c .states-test .taken) (c .before .before .before .pre .0) (c .before .before .before .pre .1) in omega arith
+
+row-fits-requires : tie.Need-row-fits-requires Inv-states μ-states
+row-fits-requires c κs = (row STATES ACTIONS (c .states-test .taken) (c .before .before .before .pre .0) (c .before .before .before .pre .1), c .before .before .before .pre .1)
+
+add-s : tie.Need-add-s Inv-states μ-states
+add-s c = search each
+
+states-less : tie.Need-states-less Inv-states μ-states
+states-less c = search each
+
+states-again : tie.Need-states-again Inv-states μ-states
+states-again c = search each
+
+returns : tie.Need-returns Inv-states μ-states
+unfolding nextFits
+returns c = search each
+
+returns-2 : tie.Need-returns-2 Inv-states μ-states
+unfolding nextFits
+returns-2 c = search each
+
+pub next-fits-spec : {M : Type 1} → statement M
+next-fits-spec =
+    tie.close
+    (tie.spec
+    Inv-states
+    μ-states
+    states-holds
+    mul-row-fits
+    row-fits-requires
+    add-s
+    states-less
+    states-again
+    returns
+    returns-2)
