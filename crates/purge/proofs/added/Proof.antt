@@ -1,0 +1,28 @@
+-- `purge::added` meets its contract. Assumes nothing.
+use borrow.Author.Needs.{needs}
+use Rattle.purge.proofs.Told.{added-plain, added-intransitive}
+use Rattle.purge.proofs.added.Statement.{statement}
+use Rattle.purge.proofs.added.Tie as tie
+use Rattle.purge.proofs.added.Reads as reads
+use Rattle.purge.proofs.added.Lts as lts
+use Rattle.purge.proofs.all_interferers.Reads as all-interferers-reads
+
+enum-told : tie.Need-enum-told
+enum-told c = search needs
+
+enum-told-2 : tie.Need-enum-told-2
+enum-told-2 c = search needs
+
+all-interferers-requires : tie.Need-all-interferers-requires
+all-interferers-requires c κs = search needs
+
+returns : tie.Need-returns
+returns c = added-plain (c .before .before .args .kind) (c .before .before .args .arrows .now) (c .before .match .keys1)
+
+returns-2 : tie.Need-returns-2
+returns-2 c =
+    let a = c .before .before .before .args in
+    added-intransitive (a .kind) (a .arrows .now) (c .all-interferers .result) (c .before .before .match .keys2) (c .all-interferers .ensures)
+
+pub added-spec : {M : Type 1} → statement M
+added-spec = tie.close (tie.spec enum-told enum-told-2 all-interferers-requires returns returns-2)

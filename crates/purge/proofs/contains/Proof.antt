@@ -1,0 +1,25 @@
+-- `purge::contains` meets its contract. Assumes nothing.
+use mathlib.Core.Path.{refl, sym}
+use borrow.Author.Needs.{needs}
+use Rattle.purge.specs.Sets.{has}
+use Rattle.purge.proofs.Sets.{has-beyond}
+use Rattle.purge.proofs.contains.Statement.{statement}
+use Rattle.purge.proofs.contains.Tie as tie
+use Rattle.purge.proofs.contains.Reads as reads
+use Rattle.purge.proofs.contains.Lts as lts
+
+cast-result : tie.Need-cast-result
+cast-result c = search needs
+
+shr-result : tie.Need-shr-result
+shr-result c = search needs
+
+returns : tie.Need-returns
+unfolding has
+returns c = refl
+
+returns-2 : tie.Need-returns-2
+returns-2 c = sym (has-beyond _ _ (c .before .fits .set .fits) (c .if1 .left))
+
+pub contains-spec : {M : Type 1} → statement M
+contains-spec = tie.close (tie.spec cast-result shr-result returns returns-2)

@@ -1,0 +1,74 @@
+-- `purge::interferers` meets its contract: the set holds the boxes from v on. Assumes nothing.
+use mathlib.Core.Path.{_≡_, refl}
+use mathlib.Core.Bool.{false}
+use Prim.Native.Nat.{_+_, _-_, _*_, _≤_}
+use native.Mathlib.Omega.{arith}
+use lib.ListN.{getD}
+use borrow.Author.Needs.{needs}
+use Rattle.purge.specs.Sets.{pack}
+use Rattle.purge.proofs.Sets.{pack-fits, pack-more, pack-end}
+use Rattle.purge.proofs.interferers.Statement.{statement}
+use Rattle.purge.proofs.interferers.Tie as tie
+use Rattle.purge.proofs.interferers.Reads as reads
+use Rattle.purge.proofs.interferers.Lts as lts
+use Rattle.purge.proofs.bit.Reads as bit-reads
+
+abbrev Inv-boxes : tie.InvT-boxes
+Inv-boxes arrows u set₀ v₀ set v = (v ≤ 16) × (set ≡ pack (λ w. getD arrows (w * 16 + u) false) v (16 - v))
+
+abbrev μ-boxes : tie.MeasureT-boxes
+μ-boxes arrows u set₀ v₀ set v = v
+
+boxes-holds : tie.Need-boxes-holds Inv-boxes μ-boxes
+unfolding pack
+boxes-holds c = search needs
+
+sub-v : tie.Need-sub-v Inv-boxes μ-boxes
+sub-v c = search needs
+
+mul-set : tie.Need-mul-set Inv-boxes μ-boxes
+mul-set c = let h = pack-fits _ _ _ (omega arith) (c .before .boxes .inv .1) in omega arith
+
+mul-bit : tie.Need-mul-bit Inv-boxes μ-boxes
+mul-bit c = search needs
+
+add-bit : tie.Need-add-bit Inv-boxes μ-boxes
+add-bit c = search needs
+
+element-copy-out-bit : tie.Need-element-copy-out-bit Inv-boxes μ-boxes
+element-copy-out-bit c = search needs
+
+bit-requires : tie.Need-bit-requires Inv-boxes μ-boxes
+bit-requires c κs = search needs
+
+add-set : tie.Need-add-set Inv-boxes μ-boxes
+add-set c = let h = pack-fits _ _ _ (omega arith) (c .before .before .before .boxes .inv .1) in omega arith
+
+boxes-less : tie.Need-boxes-less Inv-boxes μ-boxes
+boxes-less c = search needs
+
+boxes-again : tie.Need-boxes-again Inv-boxes μ-boxes
+boxes-again c =
+    let b = c .before .before .before .boxes in
+    (omega arith, pack-more _ _ (c .before .before .boxes-test .taken) (b .inv .0) (b .inv .1) (c .bit .ensures .0))
+
+returns : tie.Need-returns Inv-boxes μ-boxes
+returns c = pack-end _ _ (c .boxes-test .left) (c .before .boxes .inv .1)
+
+pub interferers-spec : {M : Type 1} → statement M
+interferers-spec =
+    tie.close
+    (tie.spec
+    Inv-boxes
+    μ-boxes
+    boxes-holds
+    sub-v
+    mul-set
+    mul-bit
+    add-bit
+    element-copy-out-bit
+    bit-requires
+    add-set
+    boxes-less
+    boxes-again
+    returns)
