@@ -6,4 +6,5 @@ pub mod Count
 pub mod Lists
 pub mod Cells
 pub mod Filled
+pub mod Copied
 pub mod Loops

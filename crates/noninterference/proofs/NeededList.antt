@@ -69,20 +69,26 @@ list-unique M l m hl hm =
     (λ x i. let f = hl .only (x .source) (x .target) i in hm .each (x .source) (x .target) (f .0) (f .1) (f .2))
     (λ x i. let f = hm .only (x .source) (x .target) i in hl .each (x .source) (x .target) (f .0) (f .1) (f .2))
 
-module _ (M : Machine) (c : Closed M (λ s. s < M .states)) where
-  needs-says : (v u : ℕ) → (needs M v u ≡ true) ↔ Needed M v u
-  needs-says v u = needed-says M (reached M) (reach M c) (depthOf M u) v u (depth-computed M u (reached M) (reach M c) .enough)
+-- the arrows that the test finds, after enough rounds for each target
+pub list-computed : (M : Machine) (inside : ℕ → Bool) → Reach M inside → (depth : ℕ → ℕ) → ((u : ℕ) → u < M .boxes → Stable M u (depth u)) →
+    NeededList M (arrowsUpto (λ v u. neededIn M inside (depth u) v u) (M .boxes) (M .boxes))
+list-computed M inside w depth st = record {
+  only = λ v u m. let f = upto-only test (M .boxes) (M .boxes) (arrow v u) m in
+      (f .0, f .1, needed-says M inside w (depth u) v u (st u (f .1)) .0 (f .2));
+  each = λ v u hv hu n. upto-each test (M .boxes) (M .boxes) v u hv hu (needed-says M inside w (depth u) v u (st u hu) .1 n);
+  ascending = upto-ascending test (M .boxes) (M .boxes);
+}
+  where
+    test : ℕ → ℕ → Bool
+    test v u = neededIn M inside (depth u) v u
 
+module _ (M : Machine) (c : Closed M (λ s. s < M .states)) where
   pub needed-list : NeededList M (neededList M)
-  needed-list = record {
-    only = λ v u m. let f = upto-only (needs M) (M .boxes) (M .boxes) (arrow v u) m in (f .0, f .1, needs-says v u .0 (f .2));
-    each = λ v u hv hu n. upto-each (needs M) (M .boxes) (M .boxes) v u hv hu (needs-says v u .1 n);
-    ascending = upto-ascending (needs M) (M .boxes) (M .boxes);
-  }
+  needed-list = list-computed M (reached M) (reach M c) (depthOf M) (λ u hu. depth-computed M u (reached M) (reach M c) .enough)
 
   computed-length : length (neededList M) ≤ M .boxes * (M .boxes - 1)
   computed-length =
-      upto-length (needs M) (M .boxes) (λ v l. false-of (λ e. needs-says v v .0 e .other refl)) (M .boxes) (le-refl (M .boxes))
+      upto-length (needs M) (M .boxes) (λ v l. false-of (λ e. needed-says M (reached M) (reach M c) (depthOf M v) v v (depth-computed M v (reached M) (reach M c) .enough) .0 e .other refl)) (M .boxes) (le-refl (M .boxes))
 
   pub list-length : (l : List Arrow) → NeededList M l → length l ≤ M .boxes * (M .boxes - 1)
   list-length l h = subst (λ x. length x ≤ M .boxes * (M .boxes - 1)) (list-unique M (neededList M) l needed-list h) computed-length

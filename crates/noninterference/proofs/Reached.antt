@@ -100,3 +100,12 @@ module _ (M : Machine) (p q : ℕ → Bool) (hp : Reach M p) (hq : Reach M q) wh
 
   pub reach-count : count (M .states) p ≡ count (M .states) q
   reach-count = count-same (M .states) p q reach-unique
+
+-- ---- a set of states is the reachable set where it holds the start, is kept by the actions, and has a run to each of its states
+pub reach-by : (M : Machine) (inside : ℕ → Bool) → Closed M (λ s. (s < M .states) × (inside s ≡ true)) →
+    ((s : ℕ) → s < M .states → inside s ≡ true → Reachable M s) → Reach M inside
+reach-by M inside c way = record {
+  right = way;
+  all = λ s h. reachable-in M (λ s. (s < M .states) × (inside s ≡ true)) c s h .1;
+  small = λ s h. reachable-in M (λ s. (s < M .states) × (inside s ≡ true)) c s h .0;
+}

@@ -1,0 +1,66 @@
+-- `register::lay` meets its contract. Assumes nothing.
+use Prim.Native.Nat.{_-_}
+use native.Mathlib.Omega.{arith}
+use borrow.Author.Needs.{needs}
+use Rattle.laws.proofs.Copied.{Copied, copied-none, copied-more, copied-length, copied-all}
+use Rattle.register.proofs.lay.Statement.{statement}
+use Rattle.register.proofs.lay.Tie as tie
+use Rattle.register.proofs.lay.Reads as reads
+use Rattle.register.proofs.lay.Lts as lts
+
+abbrev Inv-entries : tie.InvT-entries
+Inv-entries entries table₀ i₀ i-end table i = Copied entries table₀ i table
+
+abbrev μ-entries : tie.MeasureT-entries
+μ-entries entries table₀ i₀ i-end table i = i-end - i
+
+entries-holds : tie.Need-entries-holds Inv-entries μ-entries
+entries-holds c = copied-none _ _ (c .pre)
+
+mul-table : tie.Need-mul-table Inv-entries μ-entries
+mul-table c = search needs
+
+shared-slice-read-table : tie.Need-shared-slice-read-table Inv-entries μ-entries
+shared-slice-read-table c = search needs
+
+mul-table-2 : tie.Need-mul-table-2 Inv-entries μ-entries
+mul-table-2 c = search needs
+
+slice-write-table : tie.Need-slice-write-table Inv-entries μ-entries
+slice-write-table c =
+    let e = c .before .before .entries in
+    let h = copied-length _ _ _ _ (e .inv) in
+    let r = e .inv .room in
+    omega arith
+
+add-i : tie.Need-add-i Inv-entries μ-entries
+add-i c = search needs
+
+entries-less : tie.Need-entries-less Inv-entries μ-entries
+entries-less c = search needs
+
+entries-again : tie.Need-entries-again Inv-entries μ-entries
+entries-again c = copied-more _ _ _ _ (c .before .before .entries .inv) (c .before .entries-test .taken)
+
+same-length : tie.Need-same-length Inv-entries μ-entries
+same-length c = copied-length _ _ _ _ (c .before .entries .inv)
+
+returns : tie.Need-returns Inv-entries μ-entries
+returns c = copied-all _ _ _ _ (c .before .entries .inv) (search needs)
+
+pub lay-spec : {M : Type 1} → statement M
+lay-spec =
+    tie.close
+    (tie.spec
+    Inv-entries
+    μ-entries
+    entries-holds
+    mul-table
+    shared-slice-read-table
+    mul-table-2
+    slice-write-table
+    add-i
+    entries-less
+    entries-again
+    same-length
+    returns)

@@ -1,0 +1,194 @@
+// The register machine as fixed tables.
+use model::Machine;
+use model::Model;
+ghost use mathlib.Core.Path.{_≡_};
+ghost use mathlib.Core.List.{_++_};
+ghost use Prim.Native.Nat.{_≤_};
+ghost use lib.ListN.{length, drop};
+ghost use Rattle.register.specs.Register as specs;
+
+// The next states, a line for each state: by U, V, W and X.
+const NEXT: [u16; 36] = [
+    1,
+    3,
+    0,
+    0,
+    1,
+    5,
+    2,
+    1,
+    2,
+    6,
+    2,
+    2,
+    5,
+    3,
+    4,
+    3,
+    7,
+    4,
+    4,
+    4,
+    5,
+    5,
+    8,
+    5,
+    6,
+    6,
+    8,
+    6,
+    7,
+    7,
+    8,
+    7,
+    8,
+    8,
+    8,
+    8,
+];
+
+// The outputs, a line for each state: X outputs the sum.
+const OUTPUTS: [u16; 36] = [
+    0,
+    0,
+    0,
+    0,
+    0,
+    0,
+    0,
+    0,
+    0,
+    0,
+    0,
+    1,
+    0,
+    0,
+    0,
+    0,
+    0,
+    0,
+    0,
+    2,
+    0,
+    0,
+    0,
+    0,
+    0,
+    0,
+    0,
+    1,
+    0,
+    0,
+    0,
+    2,
+    0,
+    0,
+    0,
+    3,
+];
+
+// The views, a line for each box.
+const VIEWS: [u16; 36] = [
+    0,
+    1,
+    1,
+    0,
+    0,
+    1,
+    1,
+    1,
+    1,
+    0,
+    0,
+    0,
+    1,
+    1,
+    1,
+    1,
+    1,
+    1,
+    0,
+    1,
+    1,
+    2,
+    2,
+    3,
+    3,
+    3,
+    3,
+    0,
+    0,
+    1,
+    0,
+    2,
+    0,
+    1,
+    2,
+    3,
+];
+
+// Lays entries at the front of a table.
+fn lay(entries: &[u16], table: &mut [u16])
+    requires { ⌜ length (now entries) ≤ length (now table) ⌝ }
+    ensures { λ r. ⌜ now (table .exit) ≡ now (entries .entry) ++ drop (length (now (entries .entry))) (now (table .entry)) ⌝ }
+{
+    'entries: for i in 0..entries.len() {
+        table[i] = entries[i];
+    }
+}
+
+// The next states, zero beyond the model.
+pub fn next() -> [u16; model::NEXT_ENTRIES]
+    ensures { λ r. ⌜ r ≡ specs.next ⌝ }
+{
+    let mut table = [0u16; model::NEXT_ENTRIES];
+    lay(&NEXT, &mut table);
+    table
+}
+
+pub fn outputs() -> [u16; model::OUTPUT_ENTRIES]
+    ensures { λ r. ⌜ r ≡ specs.outputs ⌝ }
+{
+    let mut table = [0u16; model::OUTPUT_ENTRIES];
+    lay(&OUTPUTS, &mut table);
+    table
+}
+
+pub fn views() -> [u16; model::VIEW_ENTRIES]
+    ensures { λ r. ⌜ r ≡ specs.views ⌝ }
+{
+    let mut table = [0u16; model::VIEW_ENTRIES];
+    lay(&VIEWS, &mut table);
+    table
+}
+
+// Boxes U, V, W and X with an action each.
+pub fn machine() -> Machine
+    ensures { λ r. ⌜ r ≡ specs.machine ⌝ }
+{
+    let mut owners = [0u8; model::ACTIONS];
+    owners[1] = 1;
+    owners[2] = 2;
+    owners[3] = 3;
+    Machine::new(9, 4, 4, 0, owners)
+}
+
+// Their ids, and the arrows 10 to 30, 20 to 30, 30 to 40 with the self-arrows.
+pub fn model() -> Model
+    ensures { λ r. ⌜ r ≡ specs.model ⌝ }
+{
+    let mut ids = [0u32; model::BOXES];
+    ids[0] = 10;
+    ids[1] = 20;
+    ids[2] = 30;
+    ids[3] = 40;
+    let mut arrows = [false; model::ARROWS];
+    arrows[0] = true;
+    arrows[2] = true;
+    arrows[17] = true;
+    arrows[18] = true;
+    arrows[34] = true;
+    arrows[35] = true;
+    arrows[51] = true;
+    Model::new(machine(), ids, arrows)
+}
