@@ -121,3 +121,9 @@ first-least (suc n) p zero l e = rw e (omega arith)
 first-least (suc n) p (suc i) l e =
     let h : first n (λ i. p (suc i)) ≤ i = first-least n (λ i. p (suc i)) i (le-of-suc-le-suc l) e in
     by-test (p 0) (λ q. rw q (omega arith)) (λ q. rw q (omega arith))
+
+-- ---- tabulate
+pub tabulate-same : {A : Type 0} (n : ℕ) (f g : ℕ → A) → ((i : ℕ) → i < n → f i ≡ g i) → tabulate n f ≡ tabulate n g
+unfolding tabulate
+tabulate-same zero f g h = refl
+tabulate-same (suc n) f g h = rw (tabulate-same n f g (λ i l. h i (omega arith)), h n (omega arith))

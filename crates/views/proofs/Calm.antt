@@ -1,0 +1,101 @@
+-- What the guards say of the searches: where a guard holds there is no broken place.
+-- Assumes nothing.
+use mathlib.Core.Path.{_≡_, refl, sym, ap, subst, _∙_}
+use mathlib.Core.Bool.{true, false}
+use mathlib.Core.List.{List}
+use mathlib.Core.Option.{none}
+use Prim.Native.Nat.{ℕ, _+_, _*_, _<_}
+use native.Mathlib.Omega.{arith}
+use lib.ListN.{getD}
+use borrow.Author.Tests.{eq-eqb, eqb-true}
+use Rattle.laws.proofs.Tests.{without-none, both-true}
+use Rattle.laws.proofs.Range.{every-at}
+use Rattle.laws.proofs.Search.{firstOf-empty, when-rest, when-no}
+use Rattle.model.specs.Limits.{STATES}
+use Rattle.model.specs.Denoted.{ownerAt}
+use Rattle.model.specs.Good.{GoodMachine, GoodTable}
+use Rattle.model.specs.declared.Machine.{Machine}
+use Rattle.views.specs.Tables.{alikeIn, leaksIn, tearsIn}
+use Rattle.views.specs.Guards.{classAt, lowAt, sent, Small, Low, Lows, Nexts, aloneIn, strongIn, quietIn, Calm}
+use Rattle.views.proofs.Searches.{outputAt, outputFrom, outputOf, stepAt, stepFrom, stepUnder, stepOf}
+use Rattle.views.proofs.Lows.{least-same, least-like}
+
+-- ---- bounds
+pub low-small : {low : List ℕ} (u s : ℕ) {x : ℕ} → Small low → x ≡ lowAt low u s → x < STATES
+low-small u s h e = let k = h .small (u * STATES + s) in omega arith
+
+pub low-upto : {states : ℕ} {low : List ℕ} {u s x : ℕ} → Low states low u → s < states → x ≡ lowAt low u s → x < states
+low-upto {s = s} h l e = let k = h .upto s l in omega arith
+
+pub next-small : {states actions s a : ℕ} {next : List ℕ} → Nexts states actions next → s < states → a < actions →
+    getD next (s * actions + a) 0 < STATES
+next-small {s = s} {a = a} n p q = let h = n .next-in s a p q in let k = n .states-most in omega arith
+
+pub lows-low : {states boxes : ℕ} {views low : List ℕ} {u : ℕ} → Lows states boxes views low → u < boxes → Low states low u
+lows-low {u = u} w l = record { upto = λ s p. w .least u s l p .upto }
+
+-- ---- one state for each class
+pub strong-calm : (states actions : ℕ) (next low : List ℕ) (u o a : ℕ) → strongIn states actions next low u a ≡ true →
+    Calm states actions next low u o a
+unfolding strongIn
+strong-calm states actions next low u o a h = record {
+  calm = λ s t p q r k. eqb-true _ _ (every-at _ _ h s p) ∙ ap (sent actions next low u a) r ∙ sym (eqb-true _ _ (every-at _ _ h t q));
+}
+
+alone-same : (states : ℕ) (low : List ℕ) (u : ℕ) → aloneIn states low u ≡ true → (s t : ℕ) → s < states → t < states → lowAt low u s ≡ lowAt low u t → s ≡ t
+unfolding aloneIn
+alone-same states low u h s t p q r = sym (eqb-true _ _ (every-at _ _ h s p)) ∙ r ∙ eqb-true _ _ (every-at _ _ h t q)
+
+-- no two states are alike to u, or to o
+pub alone-calm : (states actions : ℕ) (next low : List ℕ) (u o a : ℕ) → aloneIn states low u ≡ true → Calm states actions next low u o a
+alone-calm states actions next low u o a h =
+    record { calm = λ s t p q r k. ap (sent actions next low u a) (alone-same states low u h s t p q r) }
+
+pub alone-owner : (states actions : ℕ) (next low : List ℕ) (u o a : ℕ) → aloneIn states low o ≡ true → Calm states actions next low u o a
+alone-owner states actions next low u o a h =
+    record { calm = λ s t p q r k. ap (sent actions next low u a) (alone-same states low o h s t p q k) }
+
+pub nexts : {m : Machine} {next : List ℕ} → GoodTable m next → Nexts (m .states) (m .actions) next
+nexts g = record { states-most = g .machine .states-most; actions-most = g .machine .actions-most; next-in = g .next-in }
+
+-- ---- the searches over pairs find nothing
+module _ {m : Machine} {next views low : List ℕ} (g : GoodTable m next) (w : Lows (m .states) (m .boxes) views low) where
+  tears-off : {u o a : ℕ} → u < m .boxes → o < m .boxes → a < m .actions → Calm (m .states) (m .actions) next low u o a →
+      (s t : ℕ) → s < m .states → t < m .states → tearsIn (m .states) (m .actions) next views u o a s t ≡ false
+  unfolding tearsIn alikeIn
+  tears-off {u} {o} {a} lu lo la h s t p q =
+      without-none _ _ (λ e. let b = both-true _ _ e in
+      eq-eqb _ _ (least-like (w .least u _ lu (g .next-in s a p la)) (w .least u _ lu (g .next-in t a q la))
+      (h .calm s t p q (least-same (w .least u s lu p) (w .least u t lu q) (eqb-true _ _ (b .0)))
+      (least-same (w .least o s lo p) (w .least o t lo q) (eqb-true _ _ (b .1))))))
+
+  pub calm-none : {u o a : ℕ} → u < m .boxes → a < m .actions → o ≡ ownerAt m a → Calm (m .states) (m .actions) next low u o a →
+      stepUnder (m .states) (m .actions) (m .owners) next views u a ≡ none
+  calm-none {u} {o} {a} lu la e h =
+      firstOf-empty (m .states) (stepFrom (m .states) (m .actions) (m .owners) next views u a) (λ s p. when-rest true
+      (firstOf-empty (m .states) (stepAt (m .states) (m .actions) (m .owners) next views u a s) (λ t q. when-rest true (when-rest _ (when-no _
+      (tears-off lu (g .machine .owner-in a la) la (subst (λ x. Calm (m .states) (m .actions) next low u x a) e h) s t p q))))))
+
+  pub alone-none : {u : ℕ} → u < m .boxes → aloneIn (m .states) low u ≡ true → stepOf (m .states) (m .actions) (m .owners) next views u ≡ none
+  alone-none {u} lu h =
+      firstOf-empty (m .actions) (stepUnder (m .states) (m .actions) (m .owners) next views u)
+      (λ a la. calm-none lu la refl (alone-calm (m .states) (m .actions) next low u (ownerAt m a) a h))
+
+pub quiet-none : {m : Machine} {views low : List ℕ} {o a : ℕ} (outputs : List ℕ) → GoodMachine m → Lows (m .states) (m .boxes) views low →
+    a < m .actions → o ≡ ownerAt m a → quietIn (m .states) (m .actions) outputs low o a ≡ true →
+    outputOf (m .states) (m .actions) (m .owners) outputs views a ≡ none
+unfolding quietIn leaksIn alikeIn
+quiet-none {m} {views} {low} {o} {a} outputs g w la e h =
+    firstOf-empty (m .states) (outputFrom (m .states) (m .actions) (m .owners) outputs views a) (λ s p. when-rest true
+    (firstOf-empty (m .states) (outputAt (m .states) (m .actions) (m .owners) outputs views a s) (λ t q. when-rest true (when-rest _ (when-no _
+    (without-none _ _ (λ k. eq-eqb _ _ (equal s t p q (eqb-true _ _ (rw (sym e) at k))))))))))
+  where
+    own : o < m .boxes
+    own = subst (λ x. x < m .boxes) (sym e) (g .owner-in a la)
+
+    equal : (s t : ℕ) → s < m .states → t < m .states → classAt (m .states) views o s ≡ classAt (m .states) views o t →
+        getD outputs (s * m .actions + a) 0 ≡ getD outputs (t * m .actions + a) 0
+    equal s t p q k =
+        eqb-true _ _ (every-at _ _ h s p)
+        ∙ ap (λ x. getD outputs (x * m .actions + a) 0) (least-same (w .least o s own p) (w .least o t own q) k)
+        ∙ sym (eqb-true _ _ (every-at _ _ h t q))

@@ -1,0 +1,23 @@
+-- `views::entry` meets its contract. Assumes nothing.
+use native.Mathlib.Nat.{le-refl}
+use native.Mathlib.Omega.{arith}
+use Rattle.laws.proofs.Cells.{row}
+use Rattle.model.specs.Limits.{STATES}
+use borrow.Author.Needs.{needs}
+use Rattle.views.proofs.entry.Statement.{statement}
+use Rattle.views.proofs.entry.Tie as tie
+
+mul-at : tie.Need-mul-at
+mul-at c = let h = row STATES STATES (c .before .pre .0) (le-refl STATES) (c .before .pre .1) in omega arith
+
+add-at : tie.Need-add-at
+add-at c = let h = row STATES STATES (c .before .pre .0) (le-refl STATES) (c .before .pre .1) in omega arith
+
+at-requires : tie.Need-at-requires
+at-requires c κs = search needs
+
+returns : tie.Need-returns
+returns c = search needs
+
+pub entry-spec : {M : Type 1} → statement M
+entry-spec = tie.close (tie.spec mul-at add-at at-requires returns)

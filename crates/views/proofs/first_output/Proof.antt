@@ -1,0 +1,139 @@
+-- `views::first_output` meets its contract. Each loop's invariant: its number is at most the range's end, nothing is found yet, and the search that the loop makes gives nothing below its number.
+-- Assumes nothing.
+use mathlib.Core.Path.{_≡_, refl}
+use mathlib.Core.List.{[]}
+use Prim.Native.Nat.{_≤_, _<_, _-_}
+use native.Mathlib.Omega.{arith}
+use borrow.Author.Needs.{needs}
+use Rattle.laws.specs.Search.{Passed}
+use Rattle.laws.proofs.Tests.{told}
+use Rattle.laws.proofs.Search.{sweep, passed-more, firstOf-none, firstOf-hit, when-rest, when-no}
+use Rattle.views.specs.declared.Judgement.the-variants.{Accepted}
+use Rattle.views.proofs.Flags.{when-hit, pair-hit, pairs-passed, owner-in, owner-small, answer-none, answer-output}
+use Rattle.views.proofs.Calm.{lows-low, quiet-none}
+use Rattle.views.proofs.Searches.{outputAt, outputFrom, outputOf, output-is}
+use Rattle.views.proofs.first_output.Statement.{statement}
+use Rattle.views.proofs.first_output.Tie as tie
+
+abbrev Inv-seconds : tie.InvT-seconds
+Inv-seconds outputs views low states actions owners found₀ a o s t₀ found t = (t ≤ states) × (s < t) × (found ≡ Accepted) × Passed t (outputAt states actions owners outputs views a s)
+
+abbrev μ-seconds : tie.MeasureT-seconds
+μ-seconds outputs views low states actions owners found₀ a o s t₀ found t = states - t
+
+abbrev Inv-firsts : tie.InvT-firsts
+Inv-firsts outputs views low states actions owners found₀ a o s₀ found s = (s ≤ states) × (found ≡ Accepted) × Passed s (outputFrom states actions owners outputs views a)
+
+abbrev μ-firsts : tie.MeasureT-firsts
+μ-firsts outputs views low states actions owners found₀ a o s₀ found s = states - s
+
+abbrev Inv-actions : tie.InvT-actions
+Inv-actions outputs views low states actions owners found₀ a₀ found a = (a ≤ actions) × (found ≡ Accepted) × Passed a (outputOf states actions owners outputs views)
+
+abbrev μ-actions : tie.MeasureT-actions
+μ-actions outputs views low states actions owners found₀ a₀ found a = actions - a
+
+actions-holds : tie.Need-actions-holds Inv-seconds μ-seconds Inv-firsts μ-firsts Inv-actions μ-actions
+actions-holds c = search sweep
+
+slice-aggregate-owner : tie.Need-slice-aggregate-owner Inv-seconds μ-seconds Inv-firsts μ-firsts Inv-actions μ-actions
+slice-aggregate-owner c = search needs
+
+owner-requires : tie.Need-owner-requires Inv-seconds μ-seconds Inv-firsts μ-firsts Inv-actions μ-actions
+owner-requires c κs = search needs
+
+quiet-requires : tie.Need-quiet-requires Inv-seconds μ-seconds Inv-firsts μ-firsts Inv-actions μ-actions
+quiet-requires c κs = let g = c .before .before .before .before .before .before .before .pre .0 in let l = c .before .before .actions-test .taken in (lows-low (c .before .before .before .before .before .before .before .pre .1) (owner-in g l (c .owner .ensures)), (g .states-most, g .actions-most, owner-small g l (c .owner .ensures), l))
+
+add-a : tie.Need-add-a Inv-seconds μ-seconds Inv-firsts μ-firsts Inv-actions μ-actions
+add-a c = omega arith
+
+actions-less : tie.Need-actions-less Inv-seconds μ-seconds Inv-firsts μ-firsts Inv-actions μ-actions
+actions-less c = omega arith
+
+actions-again : tie.Need-actions-again Inv-seconds μ-seconds Inv-firsts μ-firsts Inv-actions μ-actions
+actions-again c = (omega arith, c .before .before .before .before .before .actions .inv .1, passed-more _ _ (c .before .before .before .before .before .actions .inv .2) (quiet-none _ (c .before .before .before .before .before .before .before .before .before .pre .0) (c .before .before .before .before .before .before .before .before .before .pre .1) (c .before .before .before .before .actions-test .taken) (c .before .before .owner .ensures) (told _ _ (c .before .quiet .ensures) (c .if1 .taken))))
+
+firsts-holds : tie.Need-firsts-holds Inv-seconds μ-seconds Inv-firsts μ-firsts Inv-actions μ-actions
+firsts-holds c = search sweep
+
+add-t : tie.Need-add-t Inv-seconds μ-seconds Inv-firsts μ-firsts Inv-actions μ-actions
+add-t c = omega arith
+
+seconds-holds : tie.Need-seconds-holds Inv-seconds μ-seconds Inv-firsts μ-firsts Inv-actions μ-actions
+seconds-holds c = search (sweep, pairs-passed)
+
+leaks-requires : tie.Need-leaks-requires Inv-seconds μ-seconds Inv-firsts μ-firsts Inv-actions μ-actions
+leaks-requires c κs = let g = c .before .before .before .before .before .before .before .before .before .before .before .before .before .pre .0 in (g .states-most, g .actions-most, owner-small g (c .before .before .before .before .before .before .before .before .actions-test .taken) (c .before .before .before .before .before .before .owner .ensures), c .before .before .before .before .before .before .before .before .actions-test .taken, c .before .before .firsts-test .taken, c .seconds-test .taken)
+
+add-t-2 : tie.Need-add-t-2 Inv-seconds μ-seconds Inv-firsts μ-firsts Inv-actions μ-actions
+add-t-2 c = omega arith
+
+seconds-less : tie.Need-seconds-less Inv-seconds μ-seconds Inv-firsts μ-firsts Inv-actions μ-actions
+seconds-less c = omega arith
+
+seconds-again : tie.Need-seconds-again Inv-seconds μ-seconds Inv-firsts μ-firsts Inv-actions μ-actions
+seconds-again c = (omega arith, omega arith, c .before .before .before .seconds .inv .2, passed-more _ _ (c .before .before .before .seconds .inv .3) (when-rest _ (when-rest _ (when-no _ (told _ _ (rw (c .before .before .before .before .before .before .before .before .owner .ensures) at (c .before .leaks .ensures)) (c .if2 .left))))))
+
+add-s : tie.Need-add-s Inv-seconds μ-seconds Inv-firsts μ-firsts Inv-actions μ-actions
+add-s c = omega arith
+
+firsts-less : tie.Need-firsts-less Inv-seconds μ-seconds Inv-firsts μ-firsts Inv-actions μ-actions
+firsts-less c = omega arith
+
+firsts-again : tie.Need-firsts-again Inv-seconds μ-seconds Inv-firsts μ-firsts Inv-actions μ-actions
+firsts-again c = search (sweep, when-rest)
+
+add-a-2 : tie.Need-add-a-2 Inv-seconds μ-seconds Inv-firsts μ-firsts Inv-actions μ-actions
+add-a-2 c = omega arith
+
+actions-less-2 : tie.Need-actions-less-2 Inv-seconds μ-seconds Inv-firsts μ-firsts Inv-actions μ-actions
+actions-less-2 c = omega arith
+
+actions-again-2 : tie.Need-actions-again-2 Inv-seconds μ-seconds Inv-firsts μ-firsts Inv-actions μ-actions
+actions-again-2 c = search sweep
+
+returns : tie.Need-returns Inv-seconds μ-seconds Inv-firsts μ-firsts Inv-actions μ-actions
+returns c = let k = c .before .before .before .before .before .args in answer-none (output-is (k .machine) [] (k .outputs .now) (k .views .now)) (c .before .actions .inv .1) (firstOf-none _ _ (c .actions-test .left) (c .before .actions .inv .2))
+
+returns-2 : tie.Need-returns-2 Inv-seconds μ-seconds Inv-firsts μ-firsts Inv-actions μ-actions
+returns-2 c = let k = c .before .before .before .before .before .before .before .before .before .before .before .before .before .before .before .args in
+    answer-output _ _ _ (output-is (k .machine) [] (k .outputs .now) (k .views .now))
+    (firstOf-hit _ _ _ _ (c .before .before .before .before .before .before .before .before .before .before .actions-test .taken) (c .before .before .before .before .before .before .before .before .before .before .before .actions .inv .2)
+    (firstOf-hit _ _ _ _ (c .before .before .before .before .firsts-test .taken) (c .before .before .before .before .before .firsts .inv .2)
+    (when-hit _ _ refl
+    (firstOf-hit _ _ _ _ (c .before .before .seconds-test .taken) (c .before .before .before .seconds .inv .3)
+    (pair-hit _ _ _ _ (c .before .before .before .seconds .inv .1) (when-hit _ _ (told _ _ (rw (c .before .before .before .before .before .before .before .before .owner .ensures) at (c .before .leaks .ensures)) (c .if2 .taken)) refl))))))
+
+pub first-output-spec : {M : Type 1} → statement M
+first-output-spec =
+    tie.close
+    (tie.spec
+    Inv-seconds
+    μ-seconds
+    Inv-firsts
+    μ-firsts
+    Inv-actions
+    μ-actions
+    actions-holds
+    slice-aggregate-owner
+    owner-requires
+    quiet-requires
+    add-a
+    actions-less
+    actions-again
+    firsts-holds
+    add-t
+    seconds-holds
+    leaks-requires
+    add-t-2
+    seconds-less
+    seconds-again
+    add-s
+    firsts-less
+    firsts-again
+    add-a-2
+    actions-less-2
+    actions-again-2
+    returns
+    returns-2)

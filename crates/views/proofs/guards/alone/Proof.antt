@@ -1,0 +1,54 @@
+use mathlib.Core.Path.{sym, _∙_}
+use Prim.Native.Nat.{_≤_, _-_}
+use native.Mathlib.Omega.{arith}
+use lib.Dec.{eqb}
+use borrow.Author.Tests.{eq-eqb, ne-eqb}
+use Rattle.laws.specs.Range.{Held}
+use Rattle.laws.proofs.Range.{sweep-every, held-more}
+use Rattle.laws.proofs.Loops.{every-yes, every-no}
+use Rattle.views.specs.Guards.{lowAt, aloneIn}
+use Rattle.views.proofs.guards.alone.Statement.{statement}
+use Rattle.views.proofs.guards.alone.Tie as tie
+
+abbrev Inv-states : tie.InvT-states
+Inv-states low states u s₀ s = (s ≤ states) × Held s (λ s. eqb (lowAt low u s) s)
+
+abbrev μ-states : tie.MeasureT-states
+μ-states low states u s₀ s = states - s
+
+states-holds : tie.Need-states-holds Inv-states μ-states
+states-holds c = search sweep-every
+
+low-of-requires : tie.Need-low-of-requires Inv-states μ-states
+low-of-requires c κs = omega arith
+
+returns : tie.Need-returns Inv-states μ-states
+unfolding aloneIn
+returns c = every-no _ _ _ (c .before .before .states-test .taken) (ne-eqb _ _ (λ e. c .if1 .taken (c .before .low-of .ensures ∙ e)))
+
+add-s : tie.Need-add-s Inv-states μ-states
+add-s c = omega arith
+
+states-less : tie.Need-states-less Inv-states μ-states
+states-less c = omega arith
+
+states-again : tie.Need-states-again Inv-states μ-states
+states-again c = (omega arith, held-more _ _ (c .before .before .before .states .inv .1) (eq-eqb _ _ (sym (c .before .low-of .ensures) ∙ c .if1 .left)))
+
+returns-2 : tie.Need-returns-2 Inv-states μ-states
+unfolding aloneIn
+returns-2 c = every-yes _ _ (c .states-test .left) (c .before .states .inv .1)
+
+pub alone-spec : {M : Type 1} → statement M
+alone-spec =
+    tie.close
+    (tie.spec
+    Inv-states
+    μ-states
+    states-holds
+    low-of-requires
+    returns
+    add-s
+    states-less
+    states-again
+    returns-2)

@@ -1,0 +1,61 @@
+-- `views::guards::fill_row` meets its contract. Assumes nothing.
+use Prim.Native.Nat.{_≤_, _-_, ℕ}
+use native.Mathlib.Omega.{arith}
+use lib.ListN.{length-replicate}
+use Rattle.views.specs.Guards.{Slots, Filled}
+use Rattle.views.proofs.Lows.{slots-none, filled-more, filled-row}
+use Rattle.views.proofs.guards.fill_row.Statement.{statement}
+use Rattle.views.proofs.guards.fill_row.Tie as tie
+
+abbrev Inv-states : tie.InvT-states
+Inv-states views low₀ states u slots₀ s₀ low slots s = (s ≤ states) × Slots states views u s slots × Filled states views low u s
+
+abbrev μ-states : tie.MeasureT-states
+μ-states views low₀ states u slots₀ s₀ low slots s = states - s
+
+states-holds : tie.Need-states-holds Inv-states μ-states
+states-holds c = (omega arith, slots-none _ _ _ _ (length-replicate {A = ℕ} 256 255), c .before .pre .0)
+
+first-alike-requires : tie.Need-first-alike-requires Inv-states μ-states
+first-alike-requires c κs = (c .before .before .states .inv .1, (c .before .before .before .before .pre .1 .0, c .before .before .before .before .pre .1 .1, c .before .states-test .taken))
+
+narrow-requires : tie.Need-narrow-requires Inv-states μ-states
+narrow-requires c κs = omega (arith, c .first-alike .ensures .1 .upto)
+
+mul-low : tie.Need-mul-low Inv-states μ-states
+mul-low c = omega arith
+
+add-low : tie.Need-add-low Inv-states μ-states
+add-low c = omega arith
+
+element-write-low : tie.Need-element-write-low Inv-states μ-states
+element-write-low c = omega arith
+
+add-s : tie.Need-add-s Inv-states μ-states
+add-s c = omega arith
+
+states-less : tie.Need-states-less Inv-states μ-states
+states-less c = omega arith
+
+states-again : tie.Need-states-again Inv-states μ-states
+states-again c = (omega arith, c .before .first-alike .ensures .0, filled-more (c .before .before .before .before .states .inv .2) (c .before .before .before .before .before .before .pre .1 .0) (c .before .before .before .before .before .before .pre .1 .1) (c .before .before .before .states-test .taken) (c .before .first-alike .ensures .1) (c .narrow .ensures))
+
+returns : tie.Need-returns Inv-states μ-states
+returns c = filled-row (c .before .states .inv .2) (c .states-test .left)
+
+pub fill-row-spec : {M : Type 1} → statement M
+fill-row-spec =
+    tie.close
+    (tie.spec
+    Inv-states
+    μ-states
+    states-holds
+    first-alike-requires
+    narrow-requires
+    mul-low
+    add-low
+    element-write-low
+    add-s
+    states-less
+    states-again
+    returns)

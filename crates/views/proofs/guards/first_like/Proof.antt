@@ -1,0 +1,51 @@
+-- `views::guards::first_like` meets its contract. Assumes nothing.
+use Prim.Native.Nat.{_≤_, _-_}
+use native.Mathlib.Omega.{arith}
+use Rattle.views.proofs.Lows.{Unlike, unlike-none, unlike-more, least-found, least-self}
+use Rattle.views.proofs.guards.first_like.Statement.{statement}
+use Rattle.views.proofs.guards.first_like.Tie as tie
+
+abbrev Inv-earlier : tie.InvT-earlier
+Inv-earlier views states u s t₀ t = (t ≤ s) × Unlike states views u s t
+
+abbrev μ-earlier : tie.MeasureT-earlier
+μ-earlier views states u s t₀ t = s - t
+
+earlier-holds : tie.Need-earlier-holds Inv-earlier μ-earlier
+earlier-holds c = (omega arith, unlike-none _ _ _ _)
+
+entry-requires : tie.Need-entry-requires Inv-earlier μ-earlier
+entry-requires c κs = omega arith
+
+entry-requires-2 : tie.Need-entry-requires-2 Inv-earlier μ-earlier
+entry-requires-2 c κs = omega arith
+
+returns : tie.Need-returns Inv-earlier μ-earlier
+returns c = least-found (c .before .before .before .before .earlier .inv .1) (c .before .before .before .earlier-test .taken) (c .before .before .entry .ensures) (c .before .entry2 .ensures) (c .if1 .taken)
+
+add-t : tie.Need-add-t Inv-earlier μ-earlier
+add-t c = omega arith
+
+earlier-less : tie.Need-earlier-less Inv-earlier μ-earlier
+earlier-less c = omega arith
+
+earlier-again : tie.Need-earlier-again Inv-earlier μ-earlier
+earlier-again c = (omega arith, unlike-more (c .before .before .before .before .earlier .inv .1) (c .before .before .entry .ensures) (c .before .entry2 .ensures) (c .if1 .left))
+
+returns-2 : tie.Need-returns-2 Inv-earlier μ-earlier
+returns-2 c = least-self (c .before .earlier .inv .1) (c .earlier-test .left)
+
+pub first-like-spec : {M : Type 1} → statement M
+first-like-spec =
+    tie.close
+    (tie.spec
+    Inv-earlier
+    μ-earlier
+    earlier-holds
+    entry-requires
+    entry-requires-2
+    returns
+    add-t
+    earlier-less
+    earlier-again
+    returns-2)

@@ -1,0 +1,65 @@
+-- `views::guards::quiet` meets its contract. Assumes nothing.
+use Prim.Native.Nat.{_≤_, _-_, _+_, _*_}
+use native.Mathlib.Omega.{arith}
+use mathlib.Core.Path.{sym, _∙_}
+use lib.Dec.{eqb}
+use borrow.Author.Tests.{eq-eqb, ne-eqb}
+use Rattle.laws.specs.Range.{Held}
+use Rattle.laws.proofs.Range.{sweep-every, held-more}
+use Rattle.laws.proofs.Loops.{every-yes, every-no}
+use lib.ListN.{getD}
+use Rattle.views.specs.Guards.{lowAt, quietIn}
+use Rattle.views.proofs.Calm.{low-upto}
+use Rattle.views.proofs.guards.quiet.Statement.{statement}
+use Rattle.views.proofs.guards.quiet.Tie as tie
+
+abbrev Inv-states : tie.InvT-states
+Inv-states low outputs states actions o a s₀ s = (s ≤ states) × Held s (λ s. eqb (getD outputs (s * actions + a) 0) (getD outputs (lowAt low o s * actions + a) 0))
+
+abbrev μ-states : tie.MeasureT-states
+μ-states low outputs states actions o a s₀ s = states - s
+
+states-holds : tie.Need-states-holds Inv-states μ-states
+states-holds c = search sweep-every
+
+low-of-requires : tie.Need-low-of-requires Inv-states μ-states
+low-of-requires c κs = omega arith
+
+entry-requires : tie.Need-entry-requires Inv-states μ-states
+entry-requires c κs = omega arith
+
+entry-requires-2 : tie.Need-entry-requires-2 Inv-states μ-states
+entry-requires-2 c κs = let l = low-upto (c .before .before .before .before .before .pre .0) (c .before .before .states-test .taken) (c .before .low-of .ensures) in omega arith
+
+returns : tie.Need-returns Inv-states μ-states
+unfolding quietIn
+returns c = every-no _ _ _ (c .before .before .before .before .states-test .taken) (ne-eqb _ _ (λ e. c .if1 .taken (c .before .before .entry .ensures ∙ e ∙ sym (rw (c .before .before .before .low-of .ensures) at (c .before .entry2 .ensures)))))
+
+add-s : tie.Need-add-s Inv-states μ-states
+add-s c = omega arith
+
+states-less : tie.Need-states-less Inv-states μ-states
+states-less c = omega arith
+
+states-again : tie.Need-states-again Inv-states μ-states
+states-again c = (omega arith, held-more _ _ (c .before .before .before .before .before .states .inv .1) (eq-eqb _ _ (sym (c .before .before .entry .ensures) ∙ c .if1 .left ∙ (rw (c .before .before .before .low-of .ensures) at (c .before .entry2 .ensures)))))
+
+returns-2 : tie.Need-returns-2 Inv-states μ-states
+unfolding quietIn
+returns-2 c = every-yes _ _ (c .states-test .left) (c .before .states .inv .1)
+
+pub quiet-spec : {M : Type 1} → statement M
+quiet-spec =
+    tie.close
+    (tie.spec
+    Inv-states
+    μ-states
+    states-holds
+    low-of-requires
+    entry-requires
+    entry-requires-2
+    returns
+    add-s
+    states-less
+    states-again
+    returns-2)

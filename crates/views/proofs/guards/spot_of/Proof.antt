@@ -1,0 +1,24 @@
+-- `views::guards::spot_of` meets its contract. Assumes nothing.
+use native.Mathlib.Omega.{arith}
+use Rattle.views.proofs.Calm.{low-small}
+use borrow.Author.Needs.{needs}
+use Rattle.views.proofs.guards.spot_of.Statement.{statement}
+use Rattle.views.proofs.guards.spot_of.Tie as tie
+
+low-of-requires : tie.Need-low-of-requires
+low-of-requires c κs = search needs
+
+mul-result : tie.Need-mul-result
+mul-result c = let h = low-small _ _ (c .before .pre .0) (c .low-of .ensures) in omega arith
+
+low-of-requires-2 : tie.Need-low-of-requires-2
+low-of-requires-2 c κs = search needs
+
+add-result : tie.Need-add-result
+add-result c = let h = low-small _ _ (c .before .before .pre .0) (c .before .low-of .ensures) in let k = low-small _ _ (c .before .before .pre .0) (c .low-of2 .ensures) in omega arith
+
+returns : tie.Need-returns
+returns c = let h = low-small _ _ (c .before .before .pre .0) (c .before .low-of .ensures) in let k = low-small _ _ (c .before .before .pre .0) (c .low-of2 .ensures) in (cc, omega arith)
+
+pub spot-of-spec : {M : Type 1} → statement M
+spot-of-spec = tie.close (tie.spec low-of-requires mul-result low-of-requires-2 add-result returns)

@@ -1,0 +1,24 @@
+-- `views::moves` meets its contract. Assumes nothing.
+use Rattle.laws.proofs.Tests.{told}
+use Rattle.views.specs.Tables.{movesIn}
+use Rattle.views.proofs.Flags.{not-yes, not-no}
+use borrow.Author.Needs.{needs}
+use Rattle.views.proofs.moves.Statement.{statement}
+use Rattle.views.proofs.moves.Tie as tie
+
+entry-requires : tie.Need-entry-requires
+entry-requires c κs = search needs
+
+alike-requires : tie.Need-alike-requires
+alike-requires c κs = search needs
+
+returns : tie.Need-returns
+unfolding movesIn
+returns c = not-yes (told _ _ (rw (c .before .before .entry .ensures) at (c .before .alike .ensures)) (c .if1 .taken))
+
+returns-2 : tie.Need-returns-2
+unfolding movesIn
+returns-2 c = not-no (told _ _ (rw (c .before .before .entry .ensures) at (c .before .alike .ensures)) (c .if1 .left))
+
+pub moves-spec : {M : Type 1} → statement M
+moves-spec = tie.close (tie.spec entry-requires alike-requires returns returns-2)

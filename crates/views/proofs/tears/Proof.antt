@@ -1,0 +1,53 @@
+-- `views::tears` meets its contract. Assumes nothing.
+use mathlib.Core.Path.{sym}
+use Rattle.laws.proofs.Tests.{told, both-of, both-no, without-of}
+use Rattle.views.specs.Tables.{tearsIn}
+use Rattle.views.proofs.Flags.{both-not, without-not, without-met}
+use borrow.Author.Needs.{needs}
+use Rattle.views.proofs.tears.Statement.{statement}
+use Rattle.views.proofs.tears.Tie as tie
+
+alike-requires : tie.Need-alike-requires
+alike-requires c κs = search needs
+
+alike-requires-2 : tie.Need-alike-requires-2
+alike-requires-2 c κs = search needs
+
+entry-requires : tie.Need-entry-requires
+entry-requires c κs = search needs
+
+entry-requires-2 : tie.Need-entry-requires-2
+entry-requires-2 c κs = search needs
+
+alike-requires-3 : tie.Need-alike-requires-3
+alike-requires-3 c κs = search needs
+
+returns : tie.Need-returns
+unfolding tearsIn
+returns c = without-met _ (told _ _ (rw (c .before .before .before .entry .ensures, c .before .before .entry2 .ensures) at (c .before .alike3 .ensures)) (c .if3 .taken))
+
+returns-2 : tie.Need-returns-2
+unfolding tearsIn
+returns-2 c = sym (without-of (both-of (told _ _ (c .before .before .before .before .before .before .before .alike .ensures) (c .before .before .before .before .before .before .if1 .taken)) (told _ _ (c .before .before .before .before .before .alike2 .ensures) (c .before .before .before .before .if2 .taken))) (told _ _ (rw (c .before .before .before .entry .ensures, c .before .before .entry2 .ensures) at (c .before .alike3 .ensures)) (c .if3 .left)))
+
+returns-3 : tie.Need-returns-3
+unfolding tearsIn
+returns-3 c = without-not _ (both-no _ (told _ _ (c .before .alike2 .ensures) (c .if2 .left)))
+
+returns-4 : tie.Need-returns-4
+unfolding tearsIn
+returns-4 c = without-not _ (both-not _ (told _ _ (c .before .alike .ensures) (c .if1 .left)))
+
+pub tears-spec : {M : Type 1} → statement M
+tears-spec =
+    tie.close
+    (tie.spec
+    alike-requires
+    alike-requires-2
+    entry-requires
+    entry-requires-2
+    alike-requires-3
+    returns
+    returns-2
+    returns-3
+    returns-4)

@@ -1,0 +1,4 @@
+pub mod Listed
+pub mod Judgement
+pub mod Tables
+pub mod Guards

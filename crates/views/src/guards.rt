@@ -1,0 +1,241 @@
+// What spares the judge its loops over pairs of states. Each guard reads the table of first alike states.
+ghost use mathlib.Core.Path.{_≡_};
+ghost use mathlib.Core.Bool.{true};
+ghost use Prim.Native.Nat.{_+_, _*_, _<_, _≤_};
+ghost use lib.ListN.{length, getD};
+ghost use Rattle.model.specs.Limits.{STATES, ACTIONS, BOXES};
+ghost use Rattle.views.specs.Guards.{lowAt, sent, spot, Least, Small, Low, Lows, Filled, slotOf, Slots, Nexts, aloneIn, strongIn, quietIn, Links, Calm};
+use super::entry;
+
+// The first alike states, box × STATES + state; the slots of one box; the numbers of pairs of classes.
+pub const LOWS: usize = 2048;
+
+const SLOTS: usize = 256;
+
+pub const SPOTS: usize = 16384;
+
+fn wide(x: u8) -> usize
+    ensures { λ r. ⌜ r ≡ x ⌝ }
+{
+    x as usize
+}
+
+fn narrow(x: usize) -> u8
+    requires { ⌜ x < 256 ⌝ }
+    ensures { λ r. ⌜ r ≡ x ⌝ }
+{
+    x as u8
+}
+
+// A small number that equal classes share.
+fn slot_of(class: usize) -> usize
+    ensures { λ r. ⌜ (r ≡ slotOf class) × (r < 256) ⌝ }
+{
+    (class / 256 + class % 256) % 256
+}
+
+// The first state with the class of s, by looking at each.
+fn first_like(views: &[u16], states: usize, u: usize, s: usize) -> usize
+    requires { ⌜ (states ≤ STATES) × (u < BOXES) × (s < states) ⌝ }
+    ensures { λ r. ⌜ Least states (now (views .entry)) u s r ⌝ }
+{
+    'earlier: for t in 0..s {
+        if entry(views, u, states, t) == entry(views, u, states, s) {
+            return t;
+        }
+    }
+    s
+}
+
+// The same by way of the slots, which name the first state that has each small number.
+fn first_alike(views: &[u16], slots: &mut [u8; SLOTS], states: usize, u: usize, s: usize) -> usize
+    requires { ⌜ Slots states (now views) u s (now slots) ⌝ }
+    requires { ⌜ (states ≤ STATES) × (u < BOXES) × (s < states) ⌝ }
+    ensures { λ r. ⌜ Slots states (now (views .entry)) u (s + 1) (now (slots .exit)) ⌝ }
+    ensures { λ r. ⌜ Least states (now (views .entry)) u s r ⌝ }
+{
+    let class = entry(views, u, states, s);
+    let slot = slot_of(class);
+    let t = wide(slots[slot]);
+    if s <= t {
+        slots[slot] = narrow(s);
+        return s;
+    }
+    if entry(views, u, states, t) == class {
+        return t;
+    }
+    first_like(views, states, u, s)
+}
+
+// The first alike states of one box more.
+fn fill_row(views: &[u16], low: &mut [u8; LOWS], states: usize, u: usize)
+    requires { ⌜ Filled states (now views) (now low) u 0 ⌝ }
+    requires { ⌜ (states ≤ STATES) × (u < BOXES) ⌝ }
+    ensures { λ r. ⌜ Filled states (now (views .entry)) (now (low .exit)) (u + 1) 0 ⌝ }
+{
+    let mut slots = [255u8; SLOTS];
+    'states: for s in 0..states {
+        let r = first_alike(views, &mut slots, states, u, s);
+        low[u * model::STATES + s] = narrow(r);
+    }
+}
+
+// The first alike state of every state, for every box.
+pub fn lows(views: &[u16], states: usize, boxes: usize) -> [u8; LOWS]
+    requires { ⌜ (states ≤ STATES) × (boxes ≤ BOXES) ⌝ }
+    ensures { λ r. ⌜ Lows states boxes (now (views .entry)) r ⌝ }
+{
+    let mut low = [0u8; LOWS];
+    'boxes: for u in 0..boxes {
+        fill_row(views, &mut low, states, u);
+    }
+    low
+}
+
+fn low_of(low: &[u8; LOWS], u: usize, s: usize) -> usize
+    requires { ⌜ (u < BOXES) × (s < STATES) ⌝ }
+    ensures { λ r. ⌜ r ≡ lowAt (now (low .entry)) u s ⌝ }
+{
+    wide(low[u * model::STATES + s])
+}
+
+// The same of the state that the action leads to.
+fn sends(low: &[u8; LOWS], next: &[u16], actions: usize, u: usize, a: usize, s: usize) -> usize
+    requires { ⌜ (actions ≤ ACTIONS) × (u < BOXES) × (a < ACTIONS) × (s < STATES) ⌝ }
+    requires { ⌜ getD (now next) (s * actions + a) 0 < STATES ⌝ }
+    ensures { λ r. ⌜ r ≡ sent actions (now (next .entry)) (now (low .entry)) u a s ⌝ }
+{
+    low_of(low, u, entry(next, s, actions, a))
+}
+
+// Whether no two states are alike to u.
+pub fn alone(low: &[u8; LOWS], states: usize, u: usize) -> bool
+    requires { ⌜ (states ≤ STATES) × (u < BOXES) ⌝ }
+    ensures { λ r. ⌜ r ≡ aloneIn states (now (low .entry)) u ⌝ }
+{
+    'states: for s in 0..states {
+        if low_of(low, u, s) != s {
+            return false;
+        }
+    }
+    true
+}
+
+// Whether each state and the first one alike to u go to states alike to u.
+fn strong(low: &[u8; LOWS], next: &[u16], states: usize, actions: usize, u: usize, a: usize) -> bool
+    requires { ⌜ Nexts states actions (now next) ⌝ }
+    requires { ⌜ Low states (now low) u ⌝ }
+    requires { ⌜ (u < BOXES) × (a < actions) ⌝ }
+    ensures { λ r. ⌜ r ≡ strongIn states actions (now (next .entry)) (now (low .entry)) u a ⌝ }
+{
+    'states: for s in 0..states {
+        let t = low_of(low, u, s);
+        if sends(low, next, actions, u, a, s) != sends(low, next, actions, u, a, t) {
+            return false;
+        }
+    }
+    true
+}
+
+// One number for the classes of s for both boxes.
+fn spot_of(low: &[u8; LOWS], u: usize, o: usize, s: usize) -> usize
+    requires { ⌜ Small (now low) ⌝ }
+    requires { ⌜ (u < BOXES) × (o < BOXES) × (s < STATES) ⌝ }
+    ensures { λ r. ⌜ (r ≡ spot (now (low .entry)) u o s) × (r < 16384) ⌝ }
+{
+    low_of(low, u, s) * model::STATES + low_of(low, o, s)
+}
+
+// Whether t, which the table names, is an earlier state alike to both boxes.
+fn linked(low: &[u8; LOWS], u: usize, o: usize, i: usize, s: usize, t: usize) -> bool
+    requires { ⌜ Small (now low) ⌝ }
+    requires { ⌜ (u < BOXES) × (o < BOXES) × (s < STATES) ⌝ }
+    ensures { λ r. ⌜ Links (now (low .entry)) u o i s t r ⌝ }
+{
+    if t < s {
+        return spot_of(low, u, o, t) == i;
+    }
+    false
+}
+
+// Whether each state and an earlier one alike to both boxes go to states alike to u. The table's content is of no matter.
+fn weak(
+    low: &[u8; LOWS],
+    next: &[u16],
+    table: &mut [u8; SPOTS],
+    states: usize,
+    actions: usize,
+    u: usize,
+    o: usize,
+    a: usize,
+) -> bool
+    requires { ⌜ length (now table) ≡ 16384 ⌝ }
+    requires { ⌜ Nexts states actions (now next) ⌝ }
+    requires { ⌜ Small (now low) ⌝ }
+    requires { ⌜ (u < BOXES) × (o < BOXES) × (a < actions) ⌝ }
+    ensures { λ r. ⌜ length (now (table .exit)) ≡ 16384 ⌝ }
+    ensures { λ r. ⌜ (r ≡ true → Calm states actions (now (next .entry)) (now (low .entry)) u o a) ⌝ }
+{
+    'states: for s in 0..states {
+        let i = spot_of(low, u, o, s);
+        let t = wide(table[i]);
+        if linked(low, u, o, i, s, t) {
+            if sends(low, next, actions, u, a, s) != sends(low, next, actions, u, a, t) {
+                return false;
+            }
+            continue 'states;
+        }
+        table[i] = narrow(s);
+    }
+    true
+}
+
+// Whether the loops over pairs would find nothing for u and a, an action of o, by three guards, the cheapest first.
+pub fn settled(
+    low: &[u8; LOWS],
+    next: &[u16],
+    table: &mut [u8; SPOTS],
+    states: usize,
+    actions: usize,
+    u: usize,
+    o: usize,
+    a: usize,
+) -> bool
+    requires { ⌜ length (now table) ≡ 16384 ⌝ }
+    requires { ⌜ Nexts states actions (now next) ⌝ }
+    requires { ⌜ Small (now low) ⌝ }
+    requires { ⌜ Low states (now low) u ⌝ }
+    requires { ⌜ (u < BOXES) × (o < BOXES) × (a < actions) ⌝ }
+    ensures { λ r. ⌜ length (now (table .exit)) ≡ 16384 ⌝ }
+    ensures { λ r. ⌜ (r ≡ true → Calm states actions (now (next .entry)) (now (low .entry)) u o a) ⌝ }
+{
+    if strong(low, next, states, actions, u, a) {
+        return true;
+    }
+    if alone(low, states, o) {
+        return true;
+    }
+    weak(low, next, table, states, actions, u, o, a)
+}
+
+// Whether the action's output at each state is that at the first one alike to o, its box.
+pub fn quiet(
+    low: &[u8; LOWS],
+    outputs: &[u16],
+    states: usize,
+    actions: usize,
+    o: usize,
+    a: usize,
+) -> bool
+    requires { ⌜ Low states (now low) o ⌝ }
+    requires { ⌜ (states ≤ STATES) × (actions ≤ ACTIONS) × (o < BOXES) × (a < actions) ⌝ }
+    ensures { λ r. ⌜ r ≡ quietIn states actions (now (outputs .entry)) (now (low .entry)) o a ⌝ }
+{
+    'states: for s in 0..states {
+        let t = low_of(low, o, s);
+        if entry(outputs, s, actions, a) != entry(outputs, t, actions, a) {
+            return false;
+        }
+    }
+    true
+}
