@@ -1,0 +1,6 @@
+pub mod Tables
+pub mod Classes
+pub mod Rounds
+pub mod Marks
+pub mod Listed
+pub mod Answered

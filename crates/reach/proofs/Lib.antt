@@ -1,0 +1,4 @@
+pub mod Tables
+pub mod Worklist
+pub mod Answered
+pub mod Told

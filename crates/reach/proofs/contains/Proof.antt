@@ -1,0 +1,26 @@
+-- `reach::contains` meets its contract. Assumes nothing.
+use mathlib.Core.Path.{_≡_}
+use mathlib.Core.Bool.{false}
+use native.Mathlib.Omega.{arith}
+use lib.ListN.{length}
+use Rattle.reach.specs.Set.{listed}
+use borrow.Author.Needs.{needs}
+use Rattle.laws.proofs.Cells.{beyond}
+use Rattle.reach.proofs.contains.Statement.{statement}
+use Rattle.reach.proofs.contains.Tie as tie
+use Rattle.reach.proofs.contains.Reads as reads
+use Rattle.reach.proofs.contains.Lts as lts
+
+element-copy-out-result : tie.Need-element-copy-out-result
+element-copy-out-result c = search needs
+
+returns : tie.Need-returns
+returns c = search needs
+
+returns-2 : tie.Need-returns-2
+returns-2 c =
+    let h : length (listed (c .before .args .t1)) ≡ 128 = search needs in
+    beyond (listed (c .before .args .t1)) _ false (omega arith)
+
+pub contains-spec : {M : Type 1} → statement M
+contains-spec = tie.close (tie.spec element-copy-out-result returns returns-2)

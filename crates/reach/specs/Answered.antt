@@ -1,0 +1,25 @@
+-- What `reached` answers.
+use mathlib.Core.Bool.{Bool, true, false}
+use mathlib.Core.List.{List}
+use Prim.Native.Nat.{ℕ}
+use lib.Dec.{eqb, ltb}
+use lib.ListN.{length}
+use Rattle.laws.specs.Choice.{both, choose}
+use Rattle.laws.specs.Range.{tabulate}
+use Rattle.noninterference.specs.Reached.{reached}
+use Rattle.model.specs.Limits.{STATES, NEXT-ENTRIES}
+use Rattle.model.specs.Refused.{machineTableFits}
+use Rattle.model.specs.declared.Machine.{Machine}
+use Rattle.reach.specs.Explored.{moving}
+use Rattle.reach.specs.declared.Outcome.{Outcome}
+use Rattle.reach.specs.declared.Outcome.the-variants.{Found, Refused}
+
+-- refused: 10 for a table of another length, 12 for a machine or a next state that breaks the rules
+unfoldable pub outcomeOf : Machine → List ℕ → Outcome
+outcomeOf m next = choose (eqb (length next) NEXT-ENTRIES) (choose (machineTableFits m next) Found (Refused 12 0)) (Refused 10 0)
+
+-- the reachable states, and none where the call is refused
+unfoldable pub flagsOf : Machine → List ℕ → List Bool
+flagsOf m next =
+    tabulate STATES λ s.
+    both (both (eqb (length next) NEXT-ENTRIES) (machineTableFits m next)) (both (ltb s (m .states)) (reached (moving m next) s))
