@@ -38,14 +38,24 @@ viewW = 0 ∷ 1 ∷ 1 ∷ 2 ∷ 2 ∷ 3 ∷ 3 ∷ 3 ∷ 3 ∷ []
 abbrev pub viewX : List ℕ
 viewX = 0 ∷ 0 ∷ 1 ∷ 0 ∷ 2 ∷ 0 ∷ 1 ∷ 2 ∷ 3 ∷ []
 
+-- the tables: their entries within the model, and zeros
+abbrev pub nextEntries : List ℕ
+nextEntries = byState nextRows 9
+
+abbrev pub outputEntries : List ℕ
+outputEntries = byState (outputRows sums) 9
+
+abbrev pub viewEntries : List ℕ
+viewEntries = byBox (viewU ∷ viewV ∷ viewW ∷ viewX ∷ [])
+
 abbrev pub next : List ℕ
-next = full NEXT-ENTRIES (byState nextRows 9)
+next = full NEXT-ENTRIES nextEntries
 
 abbrev pub outputs : List ℕ
-outputs = full OUTPUT-ENTRIES (byState (outputRows sums) 9)
+outputs = full OUTPUT-ENTRIES outputEntries
 
 abbrev pub views : List ℕ
-views = full VIEW-ENTRIES (byBox (viewU ∷ viewV ∷ viewW ∷ viewX ∷ []))
+views = full VIEW-ENTRIES viewEntries
 
 abbrev pub machine : Machine
 machine = machineFrom 9 4 4 0 (full ACTIONS (0 ∷ 1 ∷ 2 ∷ 3 ∷ []))

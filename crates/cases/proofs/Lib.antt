@@ -1,0 +1,5 @@
+pub mod Same
+pub mod Computed
+pub mod Needs
+pub mod Cases
+pub mod Beside

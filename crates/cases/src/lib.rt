@@ -1,0 +1,1 @@
+// The twelve proved cases, one table and one statement. No functions.
