@@ -26,10 +26,6 @@ not-yes e = rw e
 pub not-no : {b : Bool} → b ≡ false → true ≡ not b
 not-no e = rw e
 
-pub both-not : {a : Bool} (b : Bool) → a ≡ false → both a b ≡ false
-unfolding both
-both-not b e = rw e
-
 pub without-not : {a : Bool} (b : Bool) → a ≡ false → false ≡ without a b
 unfolding without
 without-not b e = rw e

@@ -5,3 +5,4 @@ pub mod Lows
 pub mod Linked
 pub mod Calm
 pub mod Sound
+pub mod Listed

@@ -11,7 +11,7 @@ use borrow.Author.Count.{below-more}
 use lib.ListN.{length, getD, set, length-set, replicate, length-replicate}
 use lib.Seq.{getD-set-same, getD-set-other}
 use Rattle.model.specs.Limits.{STATES, BOXES}
-use Rattle.views.specs.Guards.{classAt, lowAt, Least, Lows, Filled, slotOf, Slots}
+use Rattle.views.specs.Guards.{LOWS, SLOTS, classAt, lowAt, Least, Lows, Filled, slotOf, Slots}
 
 -- two states of one class have one first state, and only those
 pub least-same : {states : ℕ} {views : List ℕ} {u s t r q : ℕ} → Least states views u s r → Least states views u t q →
@@ -45,7 +45,7 @@ module _ {states : ℕ} {views : List ℕ} {u s n : ℕ} (h : Unlike states view
   least-self l = record { upto = omega arith; like = refl; none = λ j p. h .none j (omega arith) }
 
 -- ---- by way of the slots
-pub slots-none : (states : ℕ) (views : List ℕ) (u : ℕ) (slots : List ℕ) → length slots ≡ 256 → Slots states views u 0 slots
+pub slots-none : (states : ℕ) (views : List ℕ) (u : ℕ) (slots : List ℕ) → length slots ≡ SLOTS → Slots states views u 0 slots
 slots-none states views u slots e = record { size = e; upto = λ j l. absurd (not-suc-le-zero l) }
 
 -- c is the class of s, h its slot, and t what the slot names
@@ -73,7 +73,7 @@ module _ {states : ℕ} {views slots : List ℕ} {u s c h t : ℕ} (w : Slots st
       let q : getD slots (slotOf (classAt states views u s)) 0 ≡ t = ap (λ x. getD slots x 0) (sym here) ∙ sym et in
       record { size = w .size; upto = below-more (λ j. getD slots (slotOf (classAt states views u j)) 0 ≤ j) s (w .upto) (omega arith) }
 
-  pub slots-put : {v : ℕ} → s ≤ t → h < 256 → v ≡ s → Slots states views u (s + 1) (set slots h v)
+  pub slots-put : {v : ℕ} → s ≤ t → h < SLOTS → v ≡ s → Slots states views u (s + 1) (set slots h v)
   slots-put {v} l m ev =
       record {
         size = length-set slots h v ∙ w .size;
@@ -101,10 +101,10 @@ zeros-at zero i = refl
 zeros-at (suc n) zero = refl
 zeros-at (suc n) (suc i) = zeros-at n i
 
-pub filled-none : (states : ℕ) (views : List ℕ) → Filled states views (replicate 2048 0) 0 0
+pub filled-none : (states : ℕ) (views : List ℕ) → Filled states views (replicate LOWS 0) 0 0
 filled-none states views = record {
-  size = length-replicate {A = ℕ} 2048 0;
-  small = record { small = λ i. let e = zeros-at 2048 i in omega arith };
+  size = length-replicate {A = ℕ} LOWS 0;
+  small = record { small = λ i. let e = zeros-at LOWS i in omega arith };
   rows = λ v j l. absurd (not-suc-le-zero l);
   row = λ j l. absurd (not-suc-le-zero l);
 }

@@ -8,6 +8,16 @@ use lib.ListN.{getD, length}
 use Rattle.laws.specs.Range.{every}
 use Rattle.model.specs.Limits.{STATES, ACTIONS}
 
+-- the first alike states; the slots of one box; the numbers of pairs of classes
+abbrev pub LOWS : ℕ
+LOWS = 2048
+
+abbrev pub SLOTS : ℕ
+SLOTS = 256
+
+abbrev pub SPOTS : ℕ
+SPOTS = 16384
+
 abbrev pub classAt : ℕ → List ℕ → ℕ → ℕ → ℕ
 classAt states views u s = getD views (u * states + s) 0
 
@@ -42,18 +52,18 @@ pub record Lows (states boxes : ℕ) (views low : List ℕ) : Type 0 where
 
 -- the table is filled for all boxes before u, and for u up to s
 pub record Filled (states : ℕ) (views low : List ℕ) (u s : ℕ) : Type 0 where
-  pub size : length low ≡ 2048
+  pub size : length low ≡ LOWS
   pub small : Small low
   pub rows : (v j : ℕ) → v < u → j < states → Least states views v j (lowAt low v j)
   pub row : (j : ℕ) → j < s → Least states views u j (lowAt low u j)
 
 -- a small number that equal classes share
 unfoldable pub slotOf : ℕ → ℕ
-slotOf c = (c / 256 + c % 256) % 256
+slotOf c = (c / SLOTS + c % SLOTS) % SLOTS
 
 -- the slot of each state below n names that state or an earlier one
 pub record Slots (states : ℕ) (views : List ℕ) (u n : ℕ) (slots : List ℕ) : Type 0 where
-  pub size : length slots ≡ 256
+  pub size : length slots ≡ SLOTS
   pub upto : (j : ℕ) → j < n → getD slots (slotOf (classAt states views u j)) 0 ≤ j
 
 -- what the next states keep to

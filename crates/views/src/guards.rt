@@ -4,7 +4,7 @@ ghost use mathlib.Core.Bool.{true};
 ghost use Prim.Native.Nat.{_+_, _*_, _<_, _≤_};
 ghost use lib.ListN.{length, getD};
 ghost use Rattle.model.specs.Limits.{STATES, ACTIONS, BOXES};
-ghost use Rattle.views.specs.Guards.{lowAt, sent, spot, Least, Small, Low, Lows, Filled, slotOf, Slots, Nexts, aloneIn, strongIn, quietIn, Links, Calm};
+ghost use Rattle.views.specs.Guards.{SLOTS, SPOTS, lowAt, sent, spot, Least, Small, Low, Lows, Filled, slotOf, Slots, Nexts, aloneIn, strongIn, quietIn, Links, Calm};
 use super::entry;
 
 // The first alike states, box × STATES + state; the slots of one box; the numbers of pairs of classes.
@@ -29,9 +29,9 @@ fn narrow(x: usize) -> u8
 
 // A small number that equal classes share.
 fn slot_of(class: usize) -> usize
-    ensures { λ r. ⌜ (r ≡ slotOf class) × (r < 256) ⌝ }
+    ensures { λ r. ⌜ (r ≡ slotOf class) × (r < SLOTS) ⌝ }
 {
-    (class / 256 + class % 256) % 256
+    (class / SLOTS + class % SLOTS) % SLOTS
 }
 
 // The first state with the class of s, by looking at each.
@@ -81,7 +81,7 @@ fn fill_row(views: &[u16], low: &mut [u8; LOWS], states: usize, u: usize)
 }
 
 // The first alike state of every state, for every box.
-pub fn lows(views: &[u16], states: usize, boxes: usize) -> [u8; LOWS]
+pub(crate) fn lows(views: &[u16], states: usize, boxes: usize) -> [u8; LOWS]
     requires { ⌜ (states ≤ STATES) × (boxes ≤ BOXES) ⌝ }
     ensures { λ r. ⌜ Lows states boxes (now (views .entry)) r ⌝ }
 {
@@ -109,7 +109,7 @@ fn sends(low: &[u8; LOWS], next: &[u16], actions: usize, u: usize, a: usize, s: 
 }
 
 // Whether no two states are alike to u.
-pub fn alone(low: &[u8; LOWS], states: usize, u: usize) -> bool
+pub(crate) fn alone(low: &[u8; LOWS], states: usize, u: usize) -> bool
     requires { ⌜ (states ≤ STATES) × (u < BOXES) ⌝ }
     ensures { λ r. ⌜ r ≡ aloneIn states (now (low .entry)) u ⌝ }
 {
@@ -130,6 +130,9 @@ fn strong(low: &[u8; LOWS], next: &[u16], states: usize, actions: usize, u: usiz
 {
     'states: for s in 0..states {
         let t = low_of(low, u, s);
+        if t == s {
+            continue 'states;
+        }
         if sends(low, next, actions, u, a, s) != sends(low, next, actions, u, a, t) {
             return false;
         }
@@ -141,7 +144,7 @@ fn strong(low: &[u8; LOWS], next: &[u16], states: usize, actions: usize, u: usiz
 fn spot_of(low: &[u8; LOWS], u: usize, o: usize, s: usize) -> usize
     requires { ⌜ Small (now low) ⌝ }
     requires { ⌜ (u < BOXES) × (o < BOXES) × (s < STATES) ⌝ }
-    ensures { λ r. ⌜ (r ≡ spot (now (low .entry)) u o s) × (r < 16384) ⌝ }
+    ensures { λ r. ⌜ (r ≡ spot (now (low .entry)) u o s) × (r < SPOTS) ⌝ }
 {
     low_of(low, u, s) * model::STATES + low_of(low, o, s)
 }
@@ -169,11 +172,11 @@ fn weak(
     o: usize,
     a: usize,
 ) -> bool
-    requires { ⌜ length (now table) ≡ 16384 ⌝ }
+    requires { ⌜ length (now table) ≡ SPOTS ⌝ }
     requires { ⌜ Nexts states actions (now next) ⌝ }
     requires { ⌜ Small (now low) ⌝ }
     requires { ⌜ (u < BOXES) × (o < BOXES) × (a < actions) ⌝ }
-    ensures { λ r. ⌜ length (now (table .exit)) ≡ 16384 ⌝ }
+    ensures { λ r. ⌜ length (now (table .exit)) ≡ SPOTS ⌝ }
     ensures { λ r. ⌜ (r ≡ true → Calm states actions (now (next .entry)) (now (low .entry)) u o a) ⌝ }
 {
     'states: for s in 0..states {
@@ -191,7 +194,7 @@ fn weak(
 }
 
 // Whether the loops over pairs would find nothing for u and a, an action of o, by three guards, the cheapest first.
-pub fn settled(
+pub(crate) fn settled(
     low: &[u8; LOWS],
     next: &[u16],
     table: &mut [u8; SPOTS],
@@ -201,12 +204,12 @@ pub fn settled(
     o: usize,
     a: usize,
 ) -> bool
-    requires { ⌜ length (now table) ≡ 16384 ⌝ }
+    requires { ⌜ length (now table) ≡ SPOTS ⌝ }
     requires { ⌜ Nexts states actions (now next) ⌝ }
     requires { ⌜ Small (now low) ⌝ }
     requires { ⌜ Low states (now low) u ⌝ }
     requires { ⌜ (u < BOXES) × (o < BOXES) × (a < actions) ⌝ }
-    ensures { λ r. ⌜ length (now (table .exit)) ≡ 16384 ⌝ }
+    ensures { λ r. ⌜ length (now (table .exit)) ≡ SPOTS ⌝ }
     ensures { λ r. ⌜ (r ≡ true → Calm states actions (now (next .entry)) (now (low .entry)) u o a) ⌝ }
 {
     if strong(low, next, states, actions, u, a) {
@@ -219,7 +222,7 @@ pub fn settled(
 }
 
 // Whether the action's output at each state is that at the first one alike to o, its box.
-pub fn quiet(
+pub(crate) fn quiet(
     low: &[u8; LOWS],
     outputs: &[u16],
     states: usize,

@@ -252,33 +252,28 @@ fn first_broken(model: Model, next: &[u16], outputs: &[u16], views: &[u16]) -> J
     first_step(machine, next, views, &low)
 }
 
+// A call that takes no sheet text gives line 0.
+fn refused(number: usize) -> Judgement
+    ensures { λ r. ⌜ r ≡ Judgement.Refused number 0 ⌝ }
+{
+    Judgement::Refused { number, line: 0 }
+}
+
 // Whether the views of a model are accepted. The tables are only read.
 pub fn judge(model: Model, next: &[u16], outputs: &[u16], views: &[u16]) -> Judgement
     ensures { λ r. ⌜ r ≡ judgementOf model (now (next .entry)) (now (outputs .entry)) (now (views .entry)) ⌝ }
 {
     if next.len() != model::NEXT_ENTRIES {
-        return Judgement::Refused {
-            number: 10,
-            line: 0,
-        };
+        return refused(10);
     }
     if outputs.len() != model::OUTPUT_ENTRIES {
-        return Judgement::Refused {
-            number: 10,
-            line: 0,
-        };
+        return refused(10);
     }
     if views.len() != model::VIEW_ENTRIES {
-        return Judgement::Refused {
-            number: 10,
-            line: 0,
-        };
+        return refused(10);
     }
     if model::model_table_fits(model, next) {
         return first_broken(model, next, outputs, views);
     }
-    Judgement::Refused {
-        number: 12,
-        line: 0,
-    }
+    refused(12)
 }

@@ -1,4 +1,5 @@
 -- `model::id_is_new` meets its contract. Assumes nothing.
+-- Here `c3` is the place three before `c`.
 use Rattle.laws.proofs.Range.{held-more}
 use Rattle.laws.proofs.Loops.{read-other, each}
 use Prim.Native.Nat.{_≤_, _-_}
@@ -35,7 +36,10 @@ earlier-less : tie.Need-earlier-less Inv-earlier μ-earlier
 earlier-less c = search each
 
 earlier-again : tie.Need-earlier-again Inv-earlier μ-earlier
-earlier-again c = (omega arith, held-more _ _ (c .before .before .before .before .earlier .inv .1) (read-other _ _ (c .before .before .id .ensures) (c .before .id2 .ensures) (c .if1 .left)))
+earlier-again c =
+    let c2 = c .before .before in
+    let c4 = c2 .before .before in
+    (omega arith, held-more _ _ (c4 .earlier .inv .1) (read-other _ _ (c2 .id .ensures) (c .before .id2 .ensures) (c .if1 .left)))
 
 returns-2 : tie.Need-returns-2 Inv-earlier μ-earlier
 returns-2 c = search each

@@ -1,4 +1,5 @@
 -- `model::next_fits` meets its contract. Assumes nothing.
+-- Here `c3` is the place three before `c`.
 use Rattle.laws.proofs.Cells.{row}
 use Prim.Native.Nat.{_≤_, _-_, _+_, _*_}
 use native.Mathlib.Omega.{arith}
@@ -21,10 +22,15 @@ states-holds : tie.Need-states-holds Inv-states μ-states
 states-holds c = search each
 
 mul-row-fits : tie.Need-mul-row-fits Inv-states μ-states
-mul-row-fits c = let h = row STATES ACTIONS (c .states-test .taken) (c .before .before .before .pre .0) (c .before .before .before .pre .1) in omega arith
+mul-row-fits c =
+    let c3 = c .before .before .before in
+    let h = row STATES ACTIONS (c .states-test .taken) (c3 .pre .0) (c3 .pre .1) in
+    omega arith
 
 row-fits-requires : tie.Need-row-fits-requires Inv-states μ-states
-row-fits-requires c κs = (row STATES ACTIONS (c .states-test .taken) (c .before .before .before .pre .0) (c .before .before .before .pre .1), c .before .before .before .pre .1)
+row-fits-requires c κs =
+    let c3 = c .before .before .before in
+    (row STATES ACTIONS (c .states-test .taken) (c3 .pre .0) (c3 .pre .1), c3 .pre .1)
 
 add-s : tie.Need-add-s Inv-states μ-states
 add-s c = search each

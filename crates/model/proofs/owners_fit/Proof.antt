@@ -1,4 +1,5 @@
 -- `model::owners_fit` meets its contract. Assumes nothing.
+-- Here `c3` is the place three before `c`.
 use Rattle.laws.proofs.Range.{held-more}
 use Rattle.laws.proofs.Loops.{read-lt, each}
 use Prim.Native.Nat.{_≤_, _-_}
@@ -37,7 +38,9 @@ actions-less : tie.Need-actions-less Inv-actions μ-actions
 actions-less c = search each
 
 actions-again : tie.Need-actions-again Inv-actions μ-actions
-actions-again c = (omega arith, held-more _ _ (c .before .before .before .before .actions .inv .1) (read-lt _ _ (c .before .owner .ensures) (c .if1 .left)))
+actions-again c =
+    let c4 = c .before .before .before .before in
+    (omega arith, held-more _ _ (c4 .actions .inv .1) (read-lt _ _ (c .before .owner .ensures) (c .if1 .left)))
 
 returns-2 : tie.Need-returns-2 Inv-actions μ-actions
 unfolding ownersFit

@@ -1,5 +1,6 @@
 -- `views::first_output` meets its contract. Each loop's invariant: its number is at most the range's end, nothing is found yet, and the search that the loop makes gives nothing below its number.
 -- Assumes nothing.
+-- Here `c3` is the place three before `c`.
 use mathlib.Core.Path.{_≡_, refl}
 use mathlib.Core.List.{[]}
 use Prim.Native.Nat.{_≤_, _<_, _-_}
@@ -43,7 +44,12 @@ owner-requires : tie.Need-owner-requires Inv-seconds μ-seconds Inv-firsts μ-fi
 owner-requires c κs = search needs
 
 quiet-requires : tie.Need-quiet-requires Inv-seconds μ-seconds Inv-firsts μ-firsts Inv-actions μ-actions
-quiet-requires c κs = let g = c .before .before .before .before .before .before .before .pre .0 in let l = c .before .before .actions-test .taken in (lows-low (c .before .before .before .before .before .before .before .pre .1) (owner-in g l (c .owner .ensures)), (g .states-most, g .actions-most, owner-small g l (c .owner .ensures), l))
+quiet-requires c κs =
+    let c2 = c .before .before in
+    let c7 = c2 .before .before .before .before .before in
+    let g = c7 .pre .0 in
+    let l = c2 .actions-test .taken in
+    (lows-low (c7 .pre .1) (owner-in g l (c .owner .ensures)), (g .states-most, g .actions-most, owner-small g l (c .owner .ensures), l))
 
 add-a : tie.Need-add-a Inv-seconds μ-seconds Inv-firsts μ-firsts Inv-actions μ-actions
 add-a c = omega arith
@@ -52,7 +58,16 @@ actions-less : tie.Need-actions-less Inv-seconds μ-seconds Inv-firsts μ-firsts
 actions-less c = omega arith
 
 actions-again : tie.Need-actions-again Inv-seconds μ-seconds Inv-firsts μ-firsts Inv-actions μ-actions
-actions-again c = (omega arith, c .before .before .before .before .before .actions .inv .1, passed-more _ _ (c .before .before .before .before .before .actions .inv .2) (quiet-none _ (c .before .before .before .before .before .before .before .before .before .pre .0) (c .before .before .before .before .before .before .before .before .before .pre .1) (c .before .before .before .before .actions-test .taken) (c .before .before .owner .ensures) (told _ _ (c .before .quiet .ensures) (c .if1 .taken))))
+actions-again c =
+    let c2 = c .before .before in
+    let c4 = c2 .before .before in
+    let c5 = c4 .before in
+    let c9 = c5 .before .before .before .before in (
+      omega arith,
+      c5 .actions .inv .1,
+      passed-more _ _ (c5 .actions .inv .2) (quiet-none _ (c9 .pre .0) (c9 .pre .1) (c4 .actions-test .taken)
+          (c2 .owner .ensures) (told _ _ (c .before .quiet .ensures) (c .if1 .taken))),
+    )
 
 firsts-holds : tie.Need-firsts-holds Inv-seconds μ-seconds Inv-firsts μ-firsts Inv-actions μ-actions
 firsts-holds c = search sweep
@@ -64,7 +79,20 @@ seconds-holds : tie.Need-seconds-holds Inv-seconds μ-seconds Inv-firsts μ-firs
 seconds-holds c = search (sweep, pairs-passed)
 
 leaks-requires : tie.Need-leaks-requires Inv-seconds μ-seconds Inv-firsts μ-firsts Inv-actions μ-actions
-leaks-requires c κs = let g = c .before .before .before .before .before .before .before .before .before .before .before .before .before .pre .0 in (g .states-most, g .actions-most, owner-small g (c .before .before .before .before .before .before .before .before .actions-test .taken) (c .before .before .before .before .before .before .owner .ensures), c .before .before .before .before .before .before .before .before .actions-test .taken, c .before .before .firsts-test .taken, c .seconds-test .taken)
+leaks-requires c κs =
+    let c2 = c .before .before in
+    let c6 = c2 .before .before .before .before in
+    let c8 = c6 .before .before in
+    let c13 = c8 .before .before .before .before .before in
+    let g = c13 .pre .0 in (
+      g .states-most,
+      g .actions-most,
+      owner-small g (c8 .actions-test .taken)
+          (c6 .owner .ensures),
+      c8 .actions-test .taken,
+      c2 .firsts-test .taken,
+      c .seconds-test .taken,
+    )
 
 add-t-2 : tie.Need-add-t-2 Inv-seconds μ-seconds Inv-firsts μ-firsts Inv-actions μ-actions
 add-t-2 c = omega arith
@@ -73,7 +101,15 @@ seconds-less : tie.Need-seconds-less Inv-seconds μ-seconds Inv-firsts μ-firsts
 seconds-less c = omega arith
 
 seconds-again : tie.Need-seconds-again Inv-seconds μ-seconds Inv-firsts μ-firsts Inv-actions μ-actions
-seconds-again c = (omega arith, omega arith, c .before .before .before .seconds .inv .2, passed-more _ _ (c .before .before .before .seconds .inv .3) (when-rest _ (when-rest _ (when-no _ (told _ _ (rw (c .before .before .before .before .before .before .before .before .owner .ensures) at (c .before .leaks .ensures)) (c .if2 .left))))))
+seconds-again c =
+    let c3 = c .before .before .before in
+    let c8 = c3 .before .before .before .before .before in (
+      omega arith,
+      omega arith,
+      c3 .seconds .inv .2,
+      passed-more _ _ (c3 .seconds .inv .3) (when-rest _ (when-rest _ (when-no _ (told _ _ (rw
+          (c8 .owner .ensures) at (c .before .leaks .ensures)) (c .if2 .left))))),
+    )
 
 add-s : tie.Need-add-s Inv-seconds μ-seconds Inv-firsts μ-firsts Inv-actions μ-actions
 add-s c = omega arith
@@ -94,16 +130,27 @@ actions-again-2 : tie.Need-actions-again-2 Inv-seconds μ-seconds Inv-firsts μ-
 actions-again-2 c = search sweep
 
 returns : tie.Need-returns Inv-seconds μ-seconds Inv-firsts μ-firsts Inv-actions μ-actions
-returns c = let k = c .before .before .before .before .before .args in answer-none (output-is (k .machine) [] (k .outputs .now) (k .views .now)) (c .before .actions .inv .1) (firstOf-none _ _ (c .actions-test .left) (c .before .actions .inv .2))
+returns c =
+    let c5 = c .before .before .before .before .before in
+    let k = c5 .args in
+    answer-none (output-is (k .machine) [] (k .outputs .now) (k .views .now)) (c .before .actions .inv .1) (firstOf-none _ _ (c .actions-test .left)
+    (c .before .actions .inv .2))
 
 returns-2 : tie.Need-returns-2 Inv-seconds μ-seconds Inv-firsts μ-firsts Inv-actions μ-actions
-returns-2 c = let k = c .before .before .before .before .before .before .before .before .before .before .before .before .before .before .before .args in
-    answer-output _ _ _ (output-is (k .machine) [] (k .outputs .now) (k .views .now))
-    (firstOf-hit _ _ _ _ (c .before .before .before .before .before .before .before .before .before .before .actions-test .taken) (c .before .before .before .before .before .before .before .before .before .before .before .actions .inv .2)
-    (firstOf-hit _ _ _ _ (c .before .before .before .before .firsts-test .taken) (c .before .before .before .before .before .firsts .inv .2)
-    (when-hit _ _ refl
-    (firstOf-hit _ _ _ _ (c .before .before .seconds-test .taken) (c .before .before .before .seconds .inv .3)
-    (pair-hit _ _ _ _ (c .before .before .before .seconds .inv .1) (when-hit _ _ (told _ _ (rw (c .before .before .before .before .before .before .before .before .owner .ensures) at (c .before .leaks .ensures)) (c .if2 .taken)) refl))))))
+returns-2 c =
+    let c2 = c .before .before in
+    let c3 = c2 .before in
+    let c4 = c3 .before in
+    let c5 = c4 .before in
+    let c8 = c5 .before .before .before in
+    let c10 = c8 .before .before in
+    let c11 = c10 .before in
+    let c15 = c11 .before .before .before .before in
+    let k = c15 .args in
+    answer-output _ _ _ (output-is (k .machine) [] (k .outputs .now) (k .views .now)) (firstOf-hit _ _ _ _ (c10 .actions-test .taken)
+    (c11 .actions .inv .2) (firstOf-hit _ _ _ _ (c4 .firsts-test .taken) (c5 .firsts .inv .2) (when-hit _ _ refl (firstOf-hit _ _ _ _
+    (c2 .seconds-test .taken) (c3 .seconds .inv .3) (pair-hit _ _ _ _ (c3 .seconds .inv .1) (when-hit _ _ (told _ _ (rw (c8 .owner .ensures) at
+    (c .before .leaks .ensures)) (c .if2 .taken)) refl))))))
 
 pub first-output-spec : {M : Type 1} → statement M
 first-output-spec =

@@ -1,5 +1,6 @@
 -- `views::first_respect` meets its contract. Each loop's invariant: its number is at most the range's end, nothing is found yet, and the search that the loop makes gives nothing below its number.
 -- Assumes nothing.
+-- Here `c3` is the place three before `c`.
 use mathlib.Core.Path.{_≡_, refl, sym}
 use mathlib.Core.List.{[]}
 use Prim.Native.Nat.{_≤_, _-_}
@@ -49,10 +50,22 @@ slice-aggregate-arrow : tie.Need-slice-aggregate-arrow Inv-states μ-states Inv-
 slice-aggregate-arrow c = search needs
 
 mul-arrow : tie.Need-mul-arrow Inv-states μ-states Inv-actions μ-actions Inv-boxes μ-boxes
-mul-arrow c = let h = owner-small (c .before .before .before .before .before .before .before .before .before .before .before .before .pre .machine) (c .before .before .before .actions-test .taken) (c .before .owner .ensures) in omega arith
+mul-arrow c =
+    let c3 = c .before .before .before in
+    let c12 = c3 .before .before .before .before .before .before .before .before .before in
+    let g = c12 .pre .machine in
+    let h = owner-small g (c3 .actions-test .taken) (c .before .owner .ensures) in
+    let l = g .boxes-most in
+    omega arith
 
 add-arrow : tie.Need-add-arrow Inv-states μ-states Inv-actions μ-actions Inv-boxes μ-boxes
-add-arrow c = let h = owner-small (c .before .before .before .before .before .before .before .before .before .before .before .before .pre .machine) (c .before .before .before .actions-test .taken) (c .before .owner .ensures) in let l = c .before .before .before .before .before .before .before .before .before .before .before .before .pre .machine .boxes-most in omega arith
+add-arrow c =
+    let c3 = c .before .before .before in
+    let c12 = c3 .before .before .before .before .before .before .before .before .before in
+    let g = c12 .pre .machine in
+    let h = owner-small g (c3 .actions-test .taken) (c .before .owner .ensures) in
+    let l = g .boxes-most in
+    omega arith
 
 arrow-requires : tie.Need-arrow-requires Inv-states μ-states Inv-actions μ-actions Inv-boxes μ-boxes
 arrow-requires c κs = search needs
@@ -64,13 +77,34 @@ actions-less : tie.Need-actions-less Inv-states μ-states Inv-actions μ-actions
 actions-less c = omega arith
 
 actions-again : tie.Need-actions-again Inv-states μ-states Inv-actions μ-actions Inv-boxes μ-boxes
-actions-again c = (omega arith, c .before .before .before .before .before .before .actions .inv .1, passed-more _ _ (c .before .before .before .before .before .before .actions .inv .2) (when-no _ (sym (not-yes (told _ _ (rw (c .before .before .before .owner .ensures) at (c .before .arrow .ensures)) (c .if1 .taken))))))
+actions-again c =
+    let c3 = c .before .before .before in
+    let c6 = c3 .before .before .before in (
+      omega arith,
+      c6 .actions .inv .1,
+      passed-more _ _ (c6 .actions .inv .2) (when-no _ (sym (not-yes (told _ _ (rw (c3 .owner .ensures) at
+          (c .before .arrow .ensures)) (c .if1 .taken))))),
+    )
 
 states-holds : tie.Need-states-holds Inv-states μ-states Inv-actions μ-actions Inv-boxes μ-boxes
 states-holds c = search sweep
 
 moves-requires : tie.Need-moves-requires Inv-states μ-states Inv-actions μ-actions Inv-boxes μ-boxes
-moves-requires c κs = let g = c .before .before .before .before .before .before .before .before .before .before .before .before .before .before .before .before .pre in (((g .machine .states-most, g .machine .actions-most, lt-of-lt-of-le (c .before .before .before .before .before .before .before .before .before .boxes-test .taken) (g .machine .boxes-most), c .before .before .before .before .before .before .before .actions-test .taken, c .states-test .taken)), g .next-in _ _ (c .states-test .taken) (c .before .before .before .before .before .before .before .actions-test .taken))
+moves-requires c κs =
+    let c7 = c .before .before .before .before .before .before .before in
+    let c9 = c7 .before .before in
+    let c16 = c9 .before .before .before .before .before .before .before in
+    let g = c16 .pre in (
+      ((
+        g .machine .states-most,
+        g .machine .actions-most,
+        lt-of-lt-of-le (c9 .boxes-test .taken)
+            (g .machine .boxes-most),
+        c7 .actions-test .taken,
+        c .states-test .taken,
+      )),
+      g .next-in _ _ (c .states-test .taken) (c7 .actions-test .taken),
+    )
 
 add-s : tie.Need-add-s Inv-states μ-states Inv-actions μ-actions Inv-boxes μ-boxes
 add-s c = omega arith
@@ -79,7 +113,13 @@ states-less : tie.Need-states-less Inv-states μ-states Inv-actions μ-actions I
 states-less c = omega arith
 
 states-again : tie.Need-states-again Inv-states μ-states Inv-actions μ-actions Inv-boxes μ-boxes
-states-again c = (omega arith, c .before .before .before .states .inv .1, passed-more _ _ (c .before .before .before .states .inv .2) (when-rest _ (when-no _ (told _ _ (c .before .moves .ensures) (c .if2 .left)))))
+states-again c =
+    let c3 = c .before .before .before in (
+      omega arith,
+      c3 .states .inv .1,
+      passed-more _ _ (c3 .states .inv .2) (when-rest _ (when-no _ (told _ _ (c .before .moves .ensures)
+          (c .if2 .left)))),
+    )
 
 add-a-2 : tie.Need-add-a-2 Inv-states μ-states Inv-actions μ-actions Inv-boxes μ-boxes
 add-a-2 c = omega arith
@@ -100,16 +140,29 @@ boxes-again : tie.Need-boxes-again Inv-states μ-states Inv-actions μ-actions I
 boxes-again c = search sweep
 
 returns : tie.Need-returns Inv-states μ-states Inv-actions μ-actions Inv-boxes μ-boxes
-returns c = let k = c .before .before .before .before .before .before .before .args in answer-none (respect-is (k .model) (k .next .now) [] (k .views .now)) (c .before .boxes .inv .1) (firstOf-none _ _ (c .boxes-test .left) (c .before .boxes .inv .2))
+returns c =
+    let c7 = c .before .before .before .before .before .before .before in
+    let k = c7 .args in
+    answer-none (respect-is (k .model) (k .next .now) [] (k .views .now)) (c .before .boxes .inv .1) (firstOf-none _ _ (c .boxes-test .left)
+    (c .before .boxes .inv .2))
 
 returns-2 : tie.Need-returns-2 Inv-states μ-states Inv-actions μ-actions Inv-boxes μ-boxes
-returns-2 c = let k = c .before .before .before .before .before .before .before .before .before .before .before .before .before .before .before .before .before .before .args in
-    answer-respect _ _ _ (respect-is (k .model) (k .next .now) [] (k .views .now))
-    (firstOf-hit _ _ _ _ (c .before .before .before .before .before .before .before .before .before .before .before .boxes-test .taken) (c .before .before .before .before .before .before .before .before .before .before .before .before .boxes .inv .2)
-    (firstOf-hit _ _ _ _ (c .before .before .before .before .before .before .before .before .before .actions-test .taken) (c .before .before .before .before .before .before .before .before .before .before .actions .inv .2)
-    (when-hit _ _ (sym (not-no (told _ _ (rw (c .before .before .before .before .before .before .before .owner .ensures) at (c .before .before .before .before .before .arrow .ensures)) (c .before .before .before .before .if1 .left))))
-    (firstOf-hit _ _ _ _ (c .before .before .states-test .taken) (c .before .before .before .states .inv .2)
-    (when-hit _ _ refl (when-hit _ _ (told _ _ (c .before .moves .ensures) (c .if2 .taken)) refl))))))
+returns-2 c =
+    let c2 = c .before .before in
+    let c3 = c2 .before in
+    let c4 = c3 .before in
+    let c5 = c4 .before in
+    let c7 = c5 .before .before in
+    let c9 = c7 .before .before in
+    let c10 = c9 .before in
+    let c11 = c10 .before in
+    let c12 = c11 .before in
+    let c18 = c12 .before .before .before .before .before .before in
+    let k = c18 .args in
+    answer-respect _ _ _ (respect-is (k .model) (k .next .now) [] (k .views .now)) (firstOf-hit _ _ _ _ (c11 .boxes-test .taken) (c12 .boxes .inv .2)
+    (firstOf-hit _ _ _ _ (c9 .actions-test .taken) (c10 .actions .inv .2) (when-hit _ _ (sym (not-no (told _ _ (rw (c7 .owner .ensures) at
+    (c5 .arrow .ensures)) (c4 .if1 .left)))) (firstOf-hit _ _ _ _ (c2 .states-test .taken) (c3 .states .inv .2) (when-hit _ _ refl (when-hit _ _
+    (told _ _ (c .before .moves .ensures) (c .if2 .taken)) refl))))))
 
 pub first-respect-spec : {M : Type 1} → statement M
 first-respect-spec =

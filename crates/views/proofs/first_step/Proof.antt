@@ -1,5 +1,6 @@
 -- `views::first_step` meets its contract. Each loop's invariant: its number is at most the range's end, nothing is found yet, and the search that the loop makes gives nothing below its number.
 -- Assumes nothing.
+-- Here `c3` is the place three before `c`.
 use mathlib.Core.Path.{_≡_, refl}
 use mathlib.Core.List.{[]}
 use Prim.Native.Nat.{ℕ, _≤_, _<_, _-_}
@@ -11,6 +12,7 @@ use Rattle.laws.proofs.Tests.{told}
 use Rattle.laws.proofs.Search.{sweep, passed-more, firstOf-none, firstOf-hit, when-rest, when-no, passed-none}
 use Rattle.views.specs.declared.Judgement.the-variants.{Accepted}
 use lib.ListN.{length, length-replicate}
+use Rattle.views.specs.Guards.{SPOTS}
 use Rattle.views.proofs.Flags.{when-hit, pair-hit, pairs-passed, owner-small, answer-none, answer-step}
 use Rattle.views.proofs.Calm.{nexts, lows-low, alone-none, calm-none}
 use Rattle.views.proofs.Searches.{stepAt, stepFrom, stepUnder, stepOf, step-is}
@@ -30,22 +32,25 @@ abbrev μ-firsts : tie.MeasureT-firsts
 μ-firsts next views low states actions boxes owners found₀ table u a o s₀ found s = states - s
 
 abbrev Inv-actions : tie.InvT-actions
-Inv-actions next views low states actions boxes owners found₀ table₀ u a₀ found table a = (a ≤ actions) × (found ≡ Accepted) × Passed a (stepUnder states actions owners next views u) × (length table ≡ 16384)
+Inv-actions next views low states actions boxes owners found₀ table₀ u a₀ found table a = (a ≤ actions) × (found ≡ Accepted) × Passed a (stepUnder states actions owners next views u) × (length table ≡ SPOTS)
 
 abbrev μ-actions : tie.MeasureT-actions
 μ-actions next views low states actions boxes owners found₀ table₀ u a₀ found table a = actions - a
 
 abbrev Inv-boxes : tie.InvT-boxes
-Inv-boxes next views low states actions boxes owners found₀ table₀ u₀ found table u = (u ≤ boxes) × (found ≡ Accepted) × Passed u (stepOf states actions owners next views) × (length table ≡ 16384)
+Inv-boxes next views low states actions boxes owners found₀ table₀ u₀ found table u = (u ≤ boxes) × (found ≡ Accepted) × Passed u (stepOf states actions owners next views) × (length table ≡ SPOTS)
 
 abbrev μ-boxes : tie.MeasureT-boxes
 μ-boxes next views low states actions boxes owners found₀ table₀ u₀ found table u = boxes - u
 
 boxes-holds : tie.Need-boxes-holds Inv-seconds μ-seconds Inv-firsts μ-firsts Inv-actions μ-actions Inv-boxes μ-boxes
-boxes-holds c = (omega arith, refl, passed-none _, length-replicate {A = ℕ} 16384 0)
+boxes-holds c = (omega arith, refl, passed-none _, length-replicate {A = ℕ} SPOTS 0)
 
 alone-requires : tie.Need-alone-requires Inv-seconds μ-seconds Inv-firsts μ-firsts Inv-actions μ-actions Inv-boxes μ-boxes
-alone-requires c κs = let g = c .before .before .before .before .before .pre .0 .machine in (g .states-most, lt-of-lt-of-le (c .boxes-test .taken) (g .boxes-most))
+alone-requires c κs =
+    let c5 = c .before .before .before .before .before in
+    let g = c5 .pre .0 .machine in
+    (g .states-most, lt-of-lt-of-le (c .boxes-test .taken) (g .boxes-most))
 
 add-u : tie.Need-add-u Inv-seconds μ-seconds Inv-firsts μ-firsts Inv-actions μ-actions Inv-boxes μ-boxes
 add-u c = omega arith
@@ -54,7 +59,16 @@ boxes-less : tie.Need-boxes-less Inv-seconds μ-seconds Inv-firsts μ-firsts Inv
 boxes-less c = omega arith
 
 boxes-again : tie.Need-boxes-again Inv-seconds μ-seconds Inv-firsts μ-firsts Inv-actions μ-actions Inv-boxes μ-boxes
-boxes-again c = (omega arith, c .before .before .before .boxes .inv .1, passed-more _ _ (c .before .before .before .boxes .inv .2) (alone-none (c .before .before .before .before .before .before .before .pre .0) (c .before .before .before .before .before .before .before .pre .1) (c .before .before .boxes-test .taken) (told _ _ (c .before .alone .ensures) (c .if1 .taken))), c .before .before .before .boxes .inv .3)
+boxes-again c =
+    let c2 = c .before .before in
+    let c3 = c2 .before in
+    let c7 = c3 .before .before .before .before in (
+      omega arith,
+      c3 .boxes .inv .1,
+      passed-more _ _ (c3 .boxes .inv .2) (alone-none (c7 .pre .0) (c7 .pre .1) (c2 .boxes-test .taken) (told _ _
+          (c .before .alone .ensures) (c .if1 .taken))),
+      c3 .boxes .inv .3,
+    )
 
 actions-holds : tie.Need-actions-holds Inv-seconds μ-seconds Inv-firsts μ-firsts Inv-actions μ-actions Inv-boxes μ-boxes
 actions-holds c = (omega arith, c .before .before .before .boxes .inv .1, passed-none _, c .before .before .before .boxes .inv .3)
@@ -66,7 +80,31 @@ owner-requires : tie.Need-owner-requires Inv-seconds μ-seconds Inv-firsts μ-fi
 owner-requires c κs = search needs
 
 settled-requires : tie.Need-settled-requires Inv-seconds μ-seconds Inv-firsts μ-firsts Inv-actions μ-actions Inv-boxes μ-boxes
-settled-requires c κs = let g = c .before .before .before .before .before .before .before .before .before .before .before .before .pre .0 in let w = c .before .before .before .before .before .before .before .before .before .before .before .before .pre .1 in let l = c .before .before .before .before .before .before .before .boxes-test .taken in (c .before .before .before .before .actions .inv .3, (nexts g, (w .small, (lows-low w l, (lt-of-lt-of-le l (g .machine .boxes-most), owner-small (g .machine) (c .before .before .before .actions-test .taken) (c .before .owner .ensures), c .before .before .before .actions-test .taken)))))
+settled-requires c κs =
+    let c3 = c .before .before .before in
+    let c4 = c3 .before in
+    let c7 = c4 .before .before .before in
+    let c12 = c7 .before .before .before .before .before in
+    let g = c12 .pre .0 in
+    let w = c12 .pre .1 in
+    let l = c7 .boxes-test .taken in (
+      c4 .actions .inv .3,
+      (
+        nexts g,
+        (
+          w .small,
+          (
+            lows-low w l,
+            (
+              lt-of-lt-of-le l (g .machine .boxes-most),
+              owner-small (g .machine)
+                  (c3 .actions-test .taken) (c .before .owner .ensures),
+              c3 .actions-test .taken,
+            ),
+          ),
+        ),
+      ),
+    )
 
 add-a : tie.Need-add-a Inv-seconds μ-seconds Inv-firsts μ-firsts Inv-actions μ-actions Inv-boxes μ-boxes
 add-a c = omega arith
@@ -75,7 +113,18 @@ actions-less : tie.Need-actions-less Inv-seconds μ-seconds Inv-firsts μ-firsts
 actions-less c = omega arith
 
 actions-again : tie.Need-actions-again Inv-seconds μ-seconds Inv-firsts μ-firsts Inv-actions μ-actions Inv-boxes μ-boxes
-actions-again c = (omega arith, c .before .before .before .before .before .before .actions .inv .1, passed-more _ _ (c .before .before .before .before .before .before .actions .inv .2) (calm-none (c .before .before .before .before .before .before .before .before .before .before .before .before .before .before .pre .0) (c .before .before .before .before .before .before .before .before .before .before .before .before .before .before .pre .1) (c .before .before .before .before .before .before .before .before .before .boxes-test .taken) (c .before .before .before .before .before .actions-test .taken) (c .before .before .before .owner .ensures) (c .before .settled .ensures .1 (c .if2 .taken))), c .before .settled .ensures .0)
+actions-again c =
+    let c3 = c .before .before .before in
+    let c5 = c3 .before .before in
+    let c6 = c5 .before in
+    let c9 = c6 .before .before .before in
+    let c14 = c9 .before .before .before .before .before in (
+      omega arith,
+      c6 .actions .inv .1,
+      passed-more _ _ (c6 .actions .inv .2) (calm-none (c14 .pre .0) (c14 .pre .1) (c9 .boxes-test .taken)
+          (c5 .actions-test .taken) (c3 .owner .ensures) (c .before .settled .ensures .1 (c .if2 .taken))),
+      c .before .settled .ensures .0,
+    )
 
 firsts-holds : tie.Need-firsts-holds Inv-seconds μ-seconds Inv-firsts μ-firsts Inv-actions μ-actions Inv-boxes μ-boxes
 firsts-holds c = search sweep
@@ -87,7 +136,29 @@ seconds-holds : tie.Need-seconds-holds Inv-seconds μ-seconds Inv-firsts μ-firs
 seconds-holds c = search (sweep, pairs-passed)
 
 tears-requires : tie.Need-tears-requires Inv-seconds μ-seconds Inv-firsts μ-firsts Inv-actions μ-actions Inv-boxes μ-boxes
-tears-requires c κs = let g = c .before .before .before .before .before .before .before .before .before .before .before .before .before .before .before .before .before .before .pre .0 in ((g .machine .states-most, g .machine .actions-most, lt-of-lt-of-le (c .before .before .before .before .before .before .before .before .before .before .before .before .before .boxes-test .taken) (g .machine .boxes-most), owner-small (g .machine) (c .before .before .before .before .before .before .before .before .before .actions-test .taken) (c .before .before .before .before .before .before .before .owner .ensures), c .before .before .before .before .before .before .before .before .before .actions-test .taken, c .before .before .firsts-test .taken, c .seconds-test .taken), (g .next-in _ _ (c .before .before .firsts-test .taken) (c .before .before .before .before .before .before .before .before .before .actions-test .taken), g .next-in _ _ (c .seconds-test .taken) (c .before .before .before .before .before .before .before .before .before .actions-test .taken)))
+tears-requires c κs =
+    let c2 = c .before .before in
+    let c7 = c2 .before .before .before .before .before in
+    let c9 = c7 .before .before in
+    let c13 = c9 .before .before .before .before in
+    let c18 = c13 .before .before .before .before .before in
+    let g = c18 .pre .0 in (
+      (
+        g .machine .states-most,
+        g .machine .actions-most,
+        lt-of-lt-of-le (c13 .boxes-test .taken) (g .machine .boxes-most),
+        owner-small (g .machine)
+            (c9 .actions-test .taken) (c7 .owner .ensures),
+        c9 .actions-test .taken,
+        c2 .firsts-test .taken,
+        c .seconds-test .taken,
+      ),
+      (
+        g .next-in _ _
+            (c2 .firsts-test .taken) (c9 .actions-test .taken),
+        g .next-in _ _ (c .seconds-test .taken) (c9 .actions-test .taken),
+      ),
+    )
 
 add-t-2 : tie.Need-add-t-2 Inv-seconds μ-seconds Inv-firsts μ-firsts Inv-actions μ-actions Inv-boxes μ-boxes
 add-t-2 c = omega arith
@@ -96,7 +167,15 @@ seconds-less : tie.Need-seconds-less Inv-seconds μ-seconds Inv-firsts μ-firsts
 seconds-less c = omega arith
 
 seconds-again : tie.Need-seconds-again Inv-seconds μ-seconds Inv-firsts μ-firsts Inv-actions μ-actions Inv-boxes μ-boxes
-seconds-again c = (omega arith, omega arith, c .before .before .before .seconds .inv .2, passed-more _ _ (c .before .before .before .seconds .inv .3) (when-rest _ (when-rest _ (when-no _ (told _ _ (rw (c .before .before .before .before .before .before .before .before .before .owner .ensures) at (c .before .tears .ensures)) (c .if3 .left))))))
+seconds-again c =
+    let c3 = c .before .before .before in
+    let c9 = c3 .before .before .before .before .before .before in (
+      omega arith,
+      omega arith,
+      c3 .seconds .inv .2,
+      passed-more _ _ (c3 .seconds .inv .3) (when-rest _ (when-rest _ (when-no _ (told _ _ (rw
+          (c9 .owner .ensures) at (c .before .tears .ensures)) (c .if3 .left))))),
+    )
 
 add-s : tie.Need-add-s Inv-seconds μ-seconds Inv-firsts μ-firsts Inv-actions μ-actions Inv-boxes μ-boxes
 add-s c = omega arith
@@ -114,7 +193,15 @@ actions-less-2 : tie.Need-actions-less-2 Inv-seconds μ-seconds Inv-firsts μ-fi
 actions-less-2 c = omega arith
 
 actions-again-2 : tie.Need-actions-again-2 Inv-seconds μ-seconds Inv-firsts μ-firsts Inv-actions μ-actions Inv-boxes μ-boxes
-actions-again-2 c = (omega arith, c .before .firsts .inv .1, passed-more _ _ (c .before .before .before .before .before .before .before .before .actions .inv .2) (firstOf-none _ _ (c .firsts-test .left) (c .before .firsts .inv .2)), c .before .before .before .settled .ensures .0)
+actions-again-2 c =
+    let c3 = c .before .before .before in
+    let c8 = c3 .before .before .before .before .before in (
+      omega arith,
+      c .before .firsts .inv .1,
+      passed-more _ _ (c8 .actions .inv .2) (firstOf-none _ _ (c .firsts-test .left)
+          (c .before .firsts .inv .2)),
+      c3 .settled .ensures .0,
+    )
 
 add-u-2 : tie.Need-add-u-2 Inv-seconds μ-seconds Inv-firsts μ-firsts Inv-actions μ-actions Inv-boxes μ-boxes
 add-u-2 c = omega arith
@@ -123,20 +210,39 @@ boxes-less-2 : tie.Need-boxes-less-2 Inv-seconds μ-seconds Inv-firsts μ-firsts
 boxes-less-2 c = omega arith
 
 boxes-again-2 : tie.Need-boxes-again-2 Inv-seconds μ-seconds Inv-firsts μ-firsts Inv-actions μ-actions Inv-boxes μ-boxes
-boxes-again-2 c = (omega arith, c .before .actions .inv .1, passed-more _ _ (c .before .before .before .before .before .boxes .inv .2) (firstOf-none _ _ (c .actions-test .left) (c .before .actions .inv .2)), c .before .actions .inv .3)
+boxes-again-2 c =
+    let c5 = c .before .before .before .before .before in (
+      omega arith,
+      c .before .actions .inv .1,
+      passed-more _ _ (c5 .boxes .inv .2) (firstOf-none _ _ (c .actions-test .left)
+          (c .before .actions .inv .2)),
+      c .before .actions .inv .3,
+    )
 
 returns : tie.Need-returns Inv-seconds μ-seconds Inv-firsts μ-firsts Inv-actions μ-actions Inv-boxes μ-boxes
-returns c = let k = c .before .before .before .before .before .args in answer-none (step-is (k .machine) (k .next .now) [] (k .views .now)) (c .before .boxes .inv .1) (firstOf-none _ _ (c .boxes-test .left) (c .before .boxes .inv .2))
+returns c =
+    let c5 = c .before .before .before .before .before in
+    let k = c5 .args in
+    answer-none (step-is (k .machine) (k .next .now) [] (k .views .now)) (c .before .boxes .inv .1) (firstOf-none _ _ (c .boxes-test .left)
+    (c .before .boxes .inv .2))
 
 returns-2 : tie.Need-returns-2 Inv-seconds μ-seconds Inv-firsts μ-firsts Inv-actions μ-actions Inv-boxes μ-boxes
-returns-2 c = let k = c .before .before .before .before .before .before .before .before .before .before .before .before .before .before .before .before .before .before .before .before .args in
-    answer-step _ _ _ _ (step-is (k .machine) (k .next .now) [] (k .views .now))
-    (firstOf-hit _ _ _ _ (c .before .before .before .before .before .before .before .before .before .before .before .before .before .before .before .boxes-test .taken) (c .before .before .before .before .before .before .before .before .before .before .before .before .before .before .before .before .boxes .inv .2)
-    (firstOf-hit _ _ _ _ (c .before .before .before .before .before .before .before .before .before .before .before .actions-test .taken) (c .before .before .before .before .before .before .before .before .before .before .before .before .actions .inv .2)
-    (firstOf-hit _ _ _ _ (c .before .before .before .before .firsts-test .taken) (c .before .before .before .before .before .firsts .inv .2)
-    (when-hit _ _ refl
-    (firstOf-hit _ _ _ _ (c .before .before .seconds-test .taken) (c .before .before .before .seconds .inv .3)
-    (pair-hit _ _ _ _ (c .before .before .before .seconds .inv .1) (when-hit _ _ (told _ _ (rw (c .before .before .before .before .before .before .before .before .before .owner .ensures) at (c .before .tears .ensures)) (c .if3 .taken)) refl)))))))
+returns-2 c =
+    let c2 = c .before .before in
+    let c3 = c2 .before in
+    let c4 = c3 .before in
+    let c5 = c4 .before in
+    let c9 = c5 .before .before .before .before in
+    let c11 = c9 .before .before in
+    let c12 = c11 .before in
+    let c15 = c12 .before .before .before in
+    let c16 = c15 .before in
+    let c20 = c16 .before .before .before .before in
+    let k = c20 .args in
+    answer-step _ _ _ _ (step-is (k .machine) (k .next .now) [] (k .views .now)) (firstOf-hit _ _ _ _ (c15 .boxes-test .taken) (c16 .boxes .inv .2)
+    (firstOf-hit _ _ _ _ (c11 .actions-test .taken) (c12 .actions .inv .2) (firstOf-hit _ _ _ _ (c4 .firsts-test .taken) (c5 .firsts .inv .2)
+    (when-hit _ _ refl (firstOf-hit _ _ _ _ (c2 .seconds-test .taken) (c3 .seconds .inv .3) (pair-hit _ _ _ _ (c3 .seconds .inv .1) (when-hit _ _
+    (told _ _ (rw (c9 .owner .ensures) at (c .before .tears .ensures)) (c .if3 .taken)) refl)))))))
 
 pub first-step-spec : {M : Type 1} → statement M
 first-step-spec =

@@ -1,25 +1,34 @@
 -- `views::judge` meets its contract. Assumes nothing.
-use mathlib.Core.Path.{refl}
+-- Here `c3` is the place three before `c`.
 use borrow.Author.Tests.{eq-eqb, ne-eqb}
 use Rattle.laws.proofs.Tests.{both-of, both-no, choose-yes, choose-no, told}
 use Rattle.model.proofs.Good.{model-table-good}
+use Rattle.laws.proofs.Loops.{both-not}
 use Rattle.views.specs.Judgement.{lengthsFit, judgementOf}
-use Rattle.views.proofs.Flags.{both-not}
 use borrow.Author.Needs.{needs}
 use Rattle.views.proofs.judge.Statement.{statement}
 use Rattle.views.proofs.judge.Tie as tie
 
+refused-requires : tie.Need-refused-requires
+refused-requires c κs = search needs
+
 returns : tie.Need-returns
 unfolding judgementOf lengthsFit
-returns c = choose-no _ (both-not _ (ne-eqb _ _ (c .if1 .taken))) refl
+returns c = choose-no _ (both-not _ (ne-eqb _ _ (c .before .if1 .taken))) (c .refused .ensures)
+
+refused-requires-2 : tie.Need-refused-requires-2
+refused-requires-2 c κs = search needs
 
 returns-2 : tie.Need-returns-2
 unfolding judgementOf lengthsFit
-returns-2 c = choose-no _ (both-no _ (both-not _ (ne-eqb _ _ (c .if2 .taken)))) refl
+returns-2 c = choose-no _ (both-no _ (both-not _ (ne-eqb _ _ (c .before .if2 .taken)))) (c .refused2 .ensures)
+
+refused-requires-3 : tie.Need-refused-requires-3
+refused-requires-3 c κs = search needs
 
 returns-3 : tie.Need-returns-3
 unfolding judgementOf lengthsFit
-returns-3 c = choose-no _ (both-no _ (both-no _ (ne-eqb _ _ (c .if3 .taken)))) refl
+returns-3 c = choose-no _ (both-no _ (both-no _ (ne-eqb _ _ (c .before .if3 .taken)))) (c .refused3 .ensures)
 
 model-table-fits-requires : tie.Need-model-table-fits-requires
 model-table-fits-requires c κs = search needs
@@ -29,20 +38,39 @@ first-broken-requires c κs = model-table-good _ _ .0 (told _ _ (c .before .mode
 
 returns-4 : tie.Need-returns-4
 unfolding judgementOf lengthsFit
-returns-4 c = choose-yes _ (both-of (eq-eqb _ _ (c .before .before .before .before .before .if1 .left)) (both-of (eq-eqb _ _ (c .before .before .before .before .if2 .left)) (eq-eqb _ _ (c .before .before .before .if3 .left)))) (choose-yes _ (told _ _ (c .before .before .model-table-fits .ensures) (c .before .if4 .taken)) (c .first-broken .ensures))
+returns-4 c =
+    let c2 = c .before .before in
+    let c3 = c2 .before in
+    let c4 = c3 .before in
+    let c5 = c4 .before in
+    choose-yes _ (both-of (eq-eqb _ _ (c5 .if1 .left)) (both-of (eq-eqb _ _ (c4 .if2 .left)) (eq-eqb _ _ (c3 .if3 .left)))) (choose-yes _ (told _ _
+    (c2 .model-table-fits .ensures) (c .before .if4 .taken)) (c .first-broken .ensures))
+
+refused-requires-4 : tie.Need-refused-requires-4
+refused-requires-4 c κs = search needs
 
 returns-5 : tie.Need-returns-5
 unfolding judgementOf lengthsFit
-returns-5 c = choose-yes _ (both-of (eq-eqb _ _ (c .before .before .before .before .if1 .left)) (both-of (eq-eqb _ _ (c .before .before .before .if2 .left)) (eq-eqb _ _ (c .before .before .if3 .left)))) (choose-no _ (told _ _ (c .before .model-table-fits .ensures) (c .if4 .left)) refl)
+returns-5 c =
+    let c2 = c .before .before in
+    let c3 = c2 .before in
+    let c4 = c3 .before in
+    let c5 = c4 .before in
+    choose-yes _ (both-of (eq-eqb _ _ (c5 .if1 .left)) (both-of (eq-eqb _ _ (c4 .if2 .left)) (eq-eqb _ _ (c3 .if3 .left)))) (choose-no _ (told _ _
+    (c2 .model-table-fits .ensures) (c .before .if4 .left)) (c .refused4 .ensures))
 
 pub judge-spec : {M : Type 1} → statement M
 judge-spec =
     tie.close
     (tie.spec
+    refused-requires
     returns
+    refused-requires-2
     returns-2
+    refused-requires-3
     returns-3
     model-table-fits-requires
     first-broken-requires
     returns-4
+    refused-requires-4
     returns-5)

@@ -1,3 +1,5 @@
+-- `views::guards::alone` meets its contract. Assumes nothing.
+-- Here `c3` is the place three before `c`.
 use mathlib.Core.Path.{sym, _∙_}
 use Prim.Native.Nat.{_≤_, _-_}
 use native.Mathlib.Omega.{arith}
@@ -33,7 +35,9 @@ states-less : tie.Need-states-less Inv-states μ-states
 states-less c = omega arith
 
 states-again : tie.Need-states-again Inv-states μ-states
-states-again c = (omega arith, held-more _ _ (c .before .before .before .states .inv .1) (eq-eqb _ _ (sym (c .before .low-of .ensures) ∙ c .if1 .left)))
+states-again c =
+    let c3 = c .before .before .before in
+    (omega arith, held-more _ _ (c3 .states .inv .1) (eq-eqb _ _ (sym (c .before .low-of .ensures) ∙ c .if1 .left)))
 
 returns-2 : tie.Need-returns-2 Inv-states μ-states
 unfolding aloneIn

@@ -1,8 +1,9 @@
 -- `views::guards::fill_row` meets its contract. Assumes nothing.
+-- Here `c3` is the place three before `c`.
 use Prim.Native.Nat.{_≤_, _-_, ℕ}
 use native.Mathlib.Omega.{arith}
 use lib.ListN.{length-replicate}
-use Rattle.views.specs.Guards.{Slots, Filled}
+use Rattle.views.specs.Guards.{SLOTS, Slots, Filled}
 use Rattle.views.proofs.Lows.{slots-none, filled-more, filled-row}
 use Rattle.views.proofs.guards.fill_row.Statement.{statement}
 use Rattle.views.proofs.guards.fill_row.Tie as tie
@@ -14,10 +15,13 @@ abbrev μ-states : tie.MeasureT-states
 μ-states views low₀ states u slots₀ s₀ low slots s = states - s
 
 states-holds : tie.Need-states-holds Inv-states μ-states
-states-holds c = (omega arith, slots-none _ _ _ _ (length-replicate {A = ℕ} 256 255), c .before .pre .0)
+states-holds c = (omega arith, slots-none _ _ _ _ (length-replicate {A = ℕ} SLOTS 255), c .before .pre .0)
 
 first-alike-requires : tie.Need-first-alike-requires Inv-states μ-states
-first-alike-requires c κs = (c .before .before .states .inv .1, (c .before .before .before .before .pre .1 .0, c .before .before .before .before .pre .1 .1, c .before .states-test .taken))
+first-alike-requires c κs =
+    let c2 = c .before .before in
+    let c4 = c2 .before .before in
+    (c2 .states .inv .1, (c4 .pre .1 .0, c4 .pre .1 .1, c .before .states-test .taken))
 
 narrow-requires : tie.Need-narrow-requires Inv-states μ-states
 narrow-requires c κs = omega (arith, c .first-alike .ensures .1 .upto)
@@ -38,7 +42,15 @@ states-less : tie.Need-states-less Inv-states μ-states
 states-less c = omega arith
 
 states-again : tie.Need-states-again Inv-states μ-states
-states-again c = (omega arith, c .before .first-alike .ensures .0, filled-more (c .before .before .before .before .states .inv .2) (c .before .before .before .before .before .before .pre .1 .0) (c .before .before .before .before .before .before .pre .1 .1) (c .before .before .before .states-test .taken) (c .before .first-alike .ensures .1) (c .narrow .ensures))
+states-again c =
+    let c3 = c .before .before .before in
+    let c4 = c3 .before in
+    let c6 = c4 .before .before in (
+      omega arith,
+      c .before .first-alike .ensures .0,
+      filled-more (c4 .states .inv .2) (c6 .pre .1 .0) (c6 .pre .1 .1) (c3 .states-test .taken)
+          (c .before .first-alike .ensures .1) (c .narrow .ensures),
+    )
 
 returns : tie.Need-returns Inv-states μ-states
 returns c = filled-row (c .before .states .inv .2) (c .states-test .left)

@@ -1,4 +1,5 @@
 -- `views::guards::first_alike` meets its contract. Assumes nothing.
+-- Here `c3` is the place three before `c`.
 use Rattle.views.proofs.Lows.{least-new, least-slot, slots-keep, slots-put}
 use borrow.Author.Needs.{needs}
 use Rattle.views.proofs.guards.first_alike.Statement.{statement}
@@ -23,19 +24,42 @@ element-write-slots : tie.Need-element-write-slots
 element-write-slots c = search needs
 
 returns : tie.Need-returns
-returns c = (slots-put (c .before .before .before .before .before .before .before .pre .0) (c .before .before .before .before .before .entry .ensures) (c .before .before .before .before .slot-of .ensures .0) (c .before .before .wide .ensures) (c .before .if1 .taken) (c .before .before .before .before .slot-of .ensures .1) (c .narrow .ensures), least-new (c .before .before .before .before .before .before .before .pre .0) (c .before .before .before .before .before .entry .ensures) (c .before .before .before .before .slot-of .ensures .0) (c .before .before .wide .ensures) (c .before .if1 .taken))
+returns c =
+    let c2 = c .before .before in
+    let c4 = c2 .before .before in
+    let c5 = c4 .before in
+    let c7 = c5 .before .before in (
+      slots-put (c7 .pre .0) (c5 .entry .ensures) (c4 .slot-of .ensures .0) (c2 .wide .ensures) (c .before .if1 .taken) (c4 .slot-of .ensures .1)
+          (c .narrow .ensures),
+      least-new (c7 .pre .0) (c5 .entry .ensures) (c4 .slot-of .ensures .0) (c2 .wide .ensures) (c .before .if1 .taken),
+    )
 
 entry-requires-2 : tie.Need-entry-requires-2
 entry-requires-2 c κs = search needs
 
 returns-2 : tie.Need-returns-2
-returns-2 c = (slots-keep (c .before .before .before .before .before .before .before .before .pre .0) (c .before .before .before .before .before .before .entry .ensures) (c .before .before .before .before .before .slot-of .ensures .0) (c .before .before .before .wide .ensures) (c .before .before .if1 .left), least-slot (c .before .before .before .before .before .before .before .before .pre .0) (c .before .before .before .before .before .before .entry .ensures) (c .before .before .before .before .before .slot-of .ensures .0) (c .before .before .before .wide .ensures) (c .before .before .if1 .left) (c .before .entry2 .ensures) (c .if2 .taken))
+returns-2 c =
+    let c2 = c .before .before in
+    let c3 = c2 .before in
+    let c5 = c3 .before .before in
+    let c6 = c5 .before in
+    let c8 = c6 .before .before in (
+      slots-keep (c8 .pre .0) (c6 .entry .ensures) (c5 .slot-of .ensures .0) (c3 .wide .ensures) (c2 .if1 .left),
+      least-slot (c8 .pre .0)
+          (c6 .entry .ensures) (c5 .slot-of .ensures .0) (c3 .wide .ensures) (c2 .if1 .left) (c .before .entry2 .ensures) (c .if2 .taken),
+    )
 
 first-like-requires : tie.Need-first-like-requires
 first-like-requires c κs = search needs
 
 returns-3 : tie.Need-returns-3
-returns-3 c = (slots-keep (c .before .before .before .before .before .before .before .before .before .pre .0) (c .before .before .before .before .before .before .before .entry .ensures) (c .before .before .before .before .before .before .slot-of .ensures .0) (c .before .before .before .before .wide .ensures) (c .before .before .before .if1 .left), c .first-like .ensures)
+returns-3 c =
+    let c3 = c .before .before .before in
+    let c4 = c3 .before in
+    let c6 = c4 .before .before in
+    let c7 = c6 .before in
+    let c9 = c7 .before .before in
+    (slots-keep (c9 .pre .0) (c7 .entry .ensures) (c6 .slot-of .ensures .0) (c4 .wide .ensures) (c3 .if1 .left), c .first-like .ensures)
 
 pub first-alike-spec : {M : Type 1} → statement M
 first-alike-spec =

@@ -1,4 +1,5 @@
 -- `views::guards::first_like` meets its contract. Assumes nothing.
+-- Here `c3` is the place three before `c`.
 use Prim.Native.Nat.{_≤_, _-_}
 use native.Mathlib.Omega.{arith}
 use Rattle.views.proofs.Lows.{Unlike, unlike-none, unlike-more, least-found, least-self}
@@ -21,7 +22,11 @@ entry-requires-2 : tie.Need-entry-requires-2 Inv-earlier μ-earlier
 entry-requires-2 c κs = omega arith
 
 returns : tie.Need-returns Inv-earlier μ-earlier
-returns c = least-found (c .before .before .before .before .earlier .inv .1) (c .before .before .before .earlier-test .taken) (c .before .before .entry .ensures) (c .before .entry2 .ensures) (c .if1 .taken)
+returns c =
+    let c2 = c .before .before in
+    let c3 = c2 .before in
+    let c4 = c3 .before in
+    least-found (c4 .earlier .inv .1) (c3 .earlier-test .taken) (c2 .entry .ensures) (c .before .entry2 .ensures) (c .if1 .taken)
 
 add-t : tie.Need-add-t Inv-earlier μ-earlier
 add-t c = omega arith
@@ -30,7 +35,10 @@ earlier-less : tie.Need-earlier-less Inv-earlier μ-earlier
 earlier-less c = omega arith
 
 earlier-again : tie.Need-earlier-again Inv-earlier μ-earlier
-earlier-again c = (omega arith, unlike-more (c .before .before .before .before .earlier .inv .1) (c .before .before .entry .ensures) (c .before .entry2 .ensures) (c .if1 .left))
+earlier-again c =
+    let c2 = c .before .before in
+    let c4 = c2 .before .before in
+    (omega arith, unlike-more (c4 .earlier .inv .1) (c2 .entry .ensures) (c .before .entry2 .ensures) (c .if1 .left))
 
 returns-2 : tie.Need-returns-2 Inv-earlier μ-earlier
 returns-2 c = least-self (c .before .earlier .inv .1) (c .earlier-test .left)

@@ -11,7 +11,13 @@ spot-of-requires : tie.Need-spot-of-requires
 spot-of-requires c κs = search needs
 
 returns : tie.Need-returns
-returns c = record { below = λ e. search needs; like = λ e. sym (c .spot-of .ensures .0) ∙ eqb-true _ _ e; other = λ e l k. not-both (eq-eqb _ _ (c .spot-of .ensures .0 ∙ k)) e }
+returns c =
+    record {
+      below = λ e. search needs;
+      like = λ e. sym (c .spot-of .ensures .0) ∙ eqb-true _ _ e;
+      other = λ e l k. not-both (eq-eqb _ _
+          (c .spot-of .ensures .0 ∙ k)) e;
+    }
 
 returns-2 : tie.Need-returns-2
 returns-2 c = record { below = λ e. not-both e refl; like = λ e. not-both e refl; other = λ e l k. omega arith }

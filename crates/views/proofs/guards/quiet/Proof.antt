@@ -1,4 +1,5 @@
 -- `views::guards::quiet` meets its contract. Assumes nothing.
+-- Here `c3` is the place three before `c`.
 use Prim.Native.Nat.{_≤_, _-_, _+_, _*_}
 use native.Mathlib.Omega.{arith}
 use mathlib.Core.Path.{sym, _∙_}
@@ -29,11 +30,20 @@ entry-requires : tie.Need-entry-requires Inv-states μ-states
 entry-requires c κs = omega arith
 
 entry-requires-2 : tie.Need-entry-requires-2 Inv-states μ-states
-entry-requires-2 c κs = let l = low-upto (c .before .before .before .before .before .pre .0) (c .before .before .states-test .taken) (c .before .low-of .ensures) in omega arith
+entry-requires-2 c κs =
+    let c2 = c .before .before in
+    let c5 = c2 .before .before .before in
+    let l = low-upto (c5 .pre .0) (c2 .states-test .taken) (c .before .low-of .ensures) in
+    omega arith
 
 returns : tie.Need-returns Inv-states μ-states
 unfolding quietIn
-returns c = every-no _ _ _ (c .before .before .before .before .states-test .taken) (ne-eqb _ _ (λ e. c .if1 .taken (c .before .before .entry .ensures ∙ e ∙ sym (rw (c .before .before .before .low-of .ensures) at (c .before .entry2 .ensures)))))
+returns c =
+    let c2 = c .before .before in
+    let c3 = c2 .before in
+    let c4 = c3 .before in
+    every-no _ _ _ (c4 .states-test .taken) (ne-eqb _ _ (λ e. c .if1 .taken (c2 .entry .ensures ∙ e ∙ sym (rw (c3 .low-of .ensures) at
+    (c .before .entry2 .ensures)))))
 
 add-s : tie.Need-add-s Inv-states μ-states
 add-s c = omega arith
@@ -42,7 +52,14 @@ states-less : tie.Need-states-less Inv-states μ-states
 states-less c = omega arith
 
 states-again : tie.Need-states-again Inv-states μ-states
-states-again c = (omega arith, held-more _ _ (c .before .before .before .before .before .states .inv .1) (eq-eqb _ _ (sym (c .before .before .entry .ensures) ∙ c .if1 .left ∙ (rw (c .before .before .before .low-of .ensures) at (c .before .entry2 .ensures)))))
+states-again c =
+    let c2 = c .before .before in
+    let c3 = c2 .before in
+    let c5 = c3 .before .before in (
+      omega arith,
+      held-more _ _ (c5 .states .inv .1) (eq-eqb _ _ (sym (c2 .entry .ensures) ∙ c .if1 .left ∙ (rw (c3 .low-of .ensures) at
+          (c .before .entry2 .ensures)))),
+    )
 
 returns-2 : tie.Need-returns-2 Inv-states μ-states
 unfolding quietIn

@@ -1,4 +1,5 @@
 -- `views::guards::settled` meets its contract. Assumes nothing.
+-- Here `c3` is the place three before `c`.
 use Rattle.laws.proofs.Tests.{told}
 use Rattle.views.proofs.Calm.{strong-calm, alone-owner}
 use borrow.Author.Needs.{needs}
@@ -15,7 +16,9 @@ alone-requires : tie.Need-alone-requires
 alone-requires c κs = search needs
 
 returns-2 : tie.Need-returns-2
-returns-2 c = (c .before .before .before .before .before .pre .0, λ e. alone-owner _ _ _ _ _ _ _ (told _ _ (c .before .alone .ensures) (c .if2 .taken)))
+returns-2 c =
+    let c5 = c .before .before .before .before .before in
+    (c5 .pre .0, λ e. alone-owner _ _ _ _ _ _ _ (told _ _ (c .before .alone .ensures) (c .if2 .taken)))
 
 weak-requires : tie.Need-weak-requires
 weak-requires c κs = search needs

@@ -1,7 +1,8 @@
 -- `views::guards::strong` meets its contract. Assumes nothing.
+-- Here `c3` is the place three before `c`.
 use Prim.Native.Nat.{_≤_, _-_}
 use native.Mathlib.Omega.{arith}
-use mathlib.Core.Path.{sym, _∙_}
+use mathlib.Core.Path.{sym, ap, _∙_}
 use lib.Dec.{eqb}
 use borrow.Author.Tests.{eq-eqb, ne-eqb}
 use Rattle.laws.specs.Range.{Held}
@@ -24,16 +25,6 @@ states-holds c = search sweep-every
 low-of-requires : tie.Need-low-of-requires Inv-states μ-states
 low-of-requires c κs = (c .before .before .before .pre .1 .1 .0, omega (arith, c .before .before .before .pre .0 .states-most))
 
-sends-requires : tie.Need-sends-requires Inv-states μ-states
-sends-requires c κs = let n = c .before .before .before .before .pre .0 in ((n .actions-most, c .before .before .before .before .pre .1 .1 .0, omega (arith, n .actions-most), omega (arith, n .states-most)), next-small n (c .before .states-test .taken) (c .before .before .before .before .pre .1 .1 .1))
-
-sends-requires-2 : tie.Need-sends-requires-2 Inv-states μ-states
-sends-requires-2 c κs = let n = c .before .before .before .before .before .pre .0 in let l = low-upto (c .before .before .before .before .before .pre .1 .0) (c .before .before .states-test .taken) (c .before .low-of .ensures) in ((n .actions-most, c .before .before .before .before .before .pre .1 .1 .0, omega (arith, n .actions-most), omega (arith, n .states-most)), next-small n l (c .before .before .before .before .before .pre .1 .1 .1))
-
-returns : tie.Need-returns Inv-states μ-states
-unfolding strongIn
-returns c = every-no _ _ _ (c .before .before .before .before .states-test .taken) (ne-eqb _ _ (λ e. c .if1 .taken (c .before .before .sends .ensures ∙ e ∙ sym (rw (c .before .before .before .low-of .ensures) at (c .before .sends2 .ensures)))))
-
 add-s : tie.Need-add-s Inv-states μ-states
 add-s c = omega arith
 
@@ -41,7 +32,58 @@ states-less : tie.Need-states-less Inv-states μ-states
 states-less c = omega arith
 
 states-again : tie.Need-states-again Inv-states μ-states
-states-again c = (omega arith, held-more _ _ (c .before .before .before .before .before .states .inv .1) (eq-eqb _ _ (sym (c .before .before .sends .ensures) ∙ c .if1 .left ∙ (rw (c .before .before .before .low-of .ensures) at (c .before .sends2 .ensures)))))
+states-again c =
+    let c3 = c .before .before .before in
+    let c5 = c3 .before .before in
+    let k = c5 .args in (
+      omega arith,
+      held-more _ _ (c3 .states .inv .1) (eq-eqb _ _ (ap (sent (k .actions) (k .next .now) (k .low .now) (k .u) (k .a)) (sym
+          (c .if1 .taken) ∙ c .before .low-of .ensures))),
+    )
+
+sends-requires : tie.Need-sends-requires Inv-states μ-states
+sends-requires c κs =
+    let c2 = c .before .before in
+    let c5 = c2 .before .before .before in
+    let n = c5 .pre .0 in (
+      (n .actions-most, c5 .pre .1 .1 .0, omega (arith, n .actions-most), omega (arith, n .states-most)),
+      next-small n (c2 .states-test .taken)
+          (c5 .pre .1 .1 .1),
+    )
+
+sends-requires-2 : tie.Need-sends-requires-2 Inv-states μ-states
+sends-requires-2 c κs =
+    let c2 = c .before .before in
+    let c3 = c2 .before in
+    let c6 = c3 .before .before .before in
+    let n = c6 .pre .0 in
+    let l = low-upto (c6 .pre .1 .0) (c3 .states-test .taken) (c2 .low-of .ensures) in
+    ((n .actions-most, c6 .pre .1 .1 .0, omega (arith, n .actions-most), omega (arith, n .states-most)), next-small n l (c6 .pre .1 .1 .1))
+
+returns : tie.Need-returns Inv-states μ-states
+unfolding strongIn
+returns c =
+    let c2 = c .before .before in
+    let c4 = c2 .before .before in
+    let c5 = c4 .before in
+    every-no _ _ _ (c5 .states-test .taken) (ne-eqb _ _ (λ e. c .if2 .taken (c2 .sends .ensures ∙ e ∙ sym (rw (c4 .low-of .ensures) at
+    (c .before .sends2 .ensures)))))
+
+add-s-2 : tie.Need-add-s-2 Inv-states μ-states
+add-s-2 c = omega arith
+
+states-less-2 : tie.Need-states-less-2 Inv-states μ-states
+states-less-2 c = omega arith
+
+states-again-2 : tie.Need-states-again-2 Inv-states μ-states
+states-again-2 c =
+    let c2 = c .before .before in
+    let c4 = c2 .before .before in
+    let c6 = c4 .before .before in (
+      omega arith,
+      held-more _ _ (c6 .states .inv .1) (eq-eqb _ _ (sym (c2 .sends .ensures) ∙ c .if2 .left ∙ (rw (c4 .low-of .ensures) at
+          (c .before .sends2 .ensures)))),
+    )
 
 returns-2 : tie.Need-returns-2 Inv-states μ-states
 unfolding strongIn
@@ -55,10 +97,13 @@ strong-spec =
     μ-states
     states-holds
     low-of-requires
-    sends-requires
-    sends-requires-2
-    returns
     add-s
     states-less
     states-again
+    sends-requires
+    sends-requires-2
+    returns
+    add-s-2
+    states-less-2
+    states-again-2
     returns-2)
