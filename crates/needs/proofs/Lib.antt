@@ -6,3 +6,5 @@ pub mod Refining
 pub mod Listing
 pub mod Sorting
 pub mod Answering
+pub mod Demand
+pub mod Looking

@@ -39,7 +39,7 @@ filled-all {list} {i} l q h k e =
     e ∙ ap (λ x. replicate i 0 ++ x) (drop-of-length-le l {i = i} (omega arith)) ∙ append-nil (replicate i 0) ∙ ap (λ x. replicate x 0) z
 
 -- ---- one pair more
-flat-length : (l : List Arrow) → length (flat l) ≡ 2 * length l
+pub flat-length : (l : List Arrow) → length (flat l) ≡ 2 * length l
 unfolding flat
 flat-length [] = refl
 flat-length (x ∷ l) = let h : length (flat l) ≡ 2 * length l = flat-length l in omega arith

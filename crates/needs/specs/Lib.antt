@@ -4,3 +4,5 @@ pub mod Rounds
 pub mod Marks
 pub mod Listed
 pub mod Answered
+pub mod Demand
+pub mod Again

@@ -21,16 +21,16 @@ states-holds : tie.Need-states-holds Inv-states μ-states
 states-holds c = (omega arith, copied-none refl)
 
 contains-requires : tie.Need-contains-requires Inv-states μ-states
-contains-requires c κs = search needs
+contains-requires c κs = tt
 
 array-write-flags : tie.Need-array-write-flags Inv-states μ-states
 array-write-flags c = search needs
 
 add-s : tie.Need-add-s Inv-states μ-states
-add-s c = search needs
+add-s c = omega arith
 
 states-less : tie.Need-states-less Inv-states μ-states
-states-less c = search needs
+states-less c = omega arith
 
 states-again : tie.Need-states-again Inv-states μ-states
 states-again c = (omega arith, copied-more (c .before .before .states .inv .1) (c .before .states-test .taken) (c .contains .ensures))

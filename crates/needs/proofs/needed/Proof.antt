@@ -9,7 +9,7 @@ use Rattle.needs.proofs.needed.Statement.{statement}
 use Rattle.needs.proofs.needed.Tie as tie
 
 refused-requires : tie.Need-refused-requires
-refused-requires c κs = search needs
+refused-requires c κs = tt
 
 returns : tie.Need-returns
 returns c =
@@ -21,7 +21,7 @@ returns c =
     (needed-lengths _ next outputs list _ e (c .refused .ensures), list-lengths _ next outputs list e)
 
 refused-requires-2 : tie.Need-refused-requires-2
-refused-requires-2 c κs = search needs
+refused-requires-2 c κs = tt
 
 returns-2 : tie.Need-returns-2
 returns-2 c =
@@ -33,7 +33,7 @@ returns-2 c =
     (needed-lengths _ next outputs list _ e (c .refused2 .ensures), list-lengths _ next outputs list e)
 
 refused-requires-3 : tie.Need-refused-requires-3
-refused-requires-3 c κs = search needs
+refused-requires-3 c κs = tt
 
 returns-3 : tie.Need-returns-3
 returns-3 c =
@@ -45,10 +45,10 @@ returns-3 c =
     (needed-lengths _ next outputs list _ e (c .refused3 .ensures), list-lengths _ next outputs list e)
 
 clear-requires : tie.Need-clear-requires
-clear-requires c κs = search needs
+clear-requires c κs = tt
 
 reached-requires : tie.Need-reached-requires
-reached-requires c κs = search needs
+reached-requires c κs = tt
 
 enum-told : tie.Need-enum-told
 enum-told c = search needs
@@ -57,7 +57,7 @@ enum-told-2 : tie.Need-enum-told-2
 enum-told-2 c = search needs
 
 refused-requires-4 : tie.Need-refused-requires-4
-refused-requires-4 c κs = search needs
+refused-requires-4 c κs = tt
 
 same-length : tie.Need-same-length
 same-length c = search needs

@@ -1,71 +1,70 @@
 -- `needs::sort` meets its contract. The loop's invariant: the boxes passed are sorted out.
 -- Assumes nothing.
-use borrow.Author.Needs.{needs}
 use native.Mathlib.Omega.{arith}
-use mathlib.Core.Path.{_≡_, refl, sym, _∙_, subst}
-use Prim.Native.Nat.{ℕ, _≤_, _<_, _-_}
-use Rattle.model.specs.Denoted.{machineOf}
-use Rattle.model.specs.Good.{GoodTable}
-use Rattle.reach.specs.Set.{flagAt}
-use Rattle.needs.specs.Rounds.{Known}
-use Rattle.needs.specs.Marks.{SortedOut}
+use mathlib.Core.Path.{_≡_, refl, sym, _∙_}
+use Prim.Native.Nat.{ℕ, _≤_, _-_}
+use Rattle.needs.specs.Again.{Befores}
 use Rattle.needs.proofs.Refining.{steps}
 use Rattle.needs.proofs.Sorting.{Sorting, sorting-none, box-small, owners-in, sorting-more, sorting-silent, sorting-all}
 use Rattle.needs.proofs.sort.Statement.{statement}
 use Rattle.needs.proofs.sort.Tie as tie
 
 abbrev Inv-boxes : tie.InvT-boxes
-Inv-boxes machine next outputs inside owners table₀ depths₀ u₀ u-end table depths u =
-    (owners ≡ machine .owners) × (u-end ≡ machine .boxes) × (u ≤ u-end) × Sorting machine next outputs inside table depths u
+Inv-boxes machine next outputs inside owners table₀ depths₀ before u₀ u-end table depths u =
+    (owners ≡ machine .owners) × (u-end ≡ machine .boxes) × (u ≤ u-end) × Befores (machine .states) (machine .actions) next before
+    × Sorting machine next outputs inside table depths u
 
 abbrev μ-boxes : tie.MeasureT-boxes
-μ-boxes machine next outputs inside owners table₀ depths₀ u₀ u-end table depths u = u-end - u
+μ-boxes machine next outputs inside owners table₀ depths₀ before u₀ u-end table depths u = u-end - u
+
+befores-requires : tie.Need-befores-requires Inv-boxes μ-boxes
+befores-requires c κs = steps (c .before .before .before .pre .0)
 
 boxes-holds : tie.Need-boxes-holds Inv-boxes μ-boxes
-boxes-holds c = let q = c .before .before .before .pre in (refl, refl, omega arith, sorting-none (q .0) (q .1))
+boxes-holds c = let q = c .before .before .before .before .pre in (refl, refl, omega arith, c .befores .ensures, sorting-none (q .0) (q .1))
 
 observes-requires : tie.Need-observes-requires Inv-boxes μ-boxes
-observes-requires c κs = search needs
+observes-requires c κs = tt
 
 refine-requires : tie.Need-refine-requires Inv-boxes μ-boxes
-refine-requires c κs = let i = c .before .before .before .before .boxes .inv .3 in (i .good, i .known)
+refine-requires c κs = let i = c .before .before .before .before .before .boxes .inv in (i .4 .good, (i .4 .known, i .3))
 
 mul-depths : tie.Need-mul-depths Inv-boxes μ-boxes
-mul-depths c = let i = c .before .before .before .before .before .boxes .inv in omega (arith, box-small (i .3))
+mul-depths c = let i = c .before .before .before .before .before .before .boxes .inv in omega (arith, box-small (i .4))
 
 array-write-depths : tie.Need-array-write-depths Inv-boxes μ-boxes
-array-write-depths c = let i = c .before .before .before .before .before .boxes .inv in omega (arith, box-small (i .3))
+array-write-depths c = let i = c .before .before .before .before .before .before .boxes .inv in omega (arith, box-small (i .4))
 
 mark-requires : tie.Need-mark-requires Inv-boxes μ-boxes
 mark-requires c κs =
-    let i = c .before .before .before .before .before .before .before .before .before .boxes .inv in
-    (steps (i .3 .good), (owners-in (i .3) (i .0), (omega (arith, box-small (i .3)), i .3 .sorted .table-long)))
+    let i = c .before .before .before .before .before .before .before .before .before .before .boxes .inv in
+    (steps (i .4 .good), (owners-in (i .4) (i .0), (omega (arith, box-small (i .4)), i .4 .sorted .table-long)))
 
 add-u : tie.Need-add-u Inv-boxes μ-boxes
-add-u c = let i = c .before .before .before .before .before .before .before .before .before .before .boxes .inv in omega (arith, box-small (i .3))
+add-u c = let i = c .before .before .before .before .before .before .before .before .before .before .before .boxes .inv in omega (arith, box-small (i .4))
 
 boxes-less : tie.Need-boxes-less Inv-boxes μ-boxes
-boxes-less c = search needs
+boxes-less c = omega arith
 
 boxes-again : tie.Need-boxes-again Inv-boxes μ-boxes
 boxes-again c =
-    let i = c .before .before .before .before .before .before .before .before .before .before .boxes .inv in
+    let i = c .before .before .before .before .before .before .before .before .before .before .before .boxes .inv in
     let r = c .before .before .before .before .before .refine in
-    (i .0, i .1, omega arith, sorting-more (i .3) (r .result .classes) (i .0) (omega arith) (r .ensures) (c .mark .ensures))
+    (i .0, i .1, omega arith, i .3, sorting-more (i .4) (r .result .classes) (i .0) (omega arith) (r .ensures) (c .mark .ensures))
 
 add-u-2 : tie.Need-add-u-2 Inv-boxes μ-boxes
-add-u-2 c = let i = c .before .before .before .before .boxes .inv in omega (arith, box-small (i .3))
+add-u-2 c = let i = c .before .before .before .before .boxes .inv in omega (arith, box-small (i .4))
 
 boxes-less-2 : tie.Need-boxes-less-2 Inv-boxes μ-boxes
-boxes-less-2 c = search needs
+boxes-less-2 c = omega arith
 
 boxes-again-2 : tie.Need-boxes-again-2 Inv-boxes μ-boxes
 boxes-again-2 c =
     let i = c .before .before .before .before .boxes .inv in
-    (i .0, i .1, omega arith, sorting-silent (i .3) (i .0) (omega arith) (sym (c .before .observes .ensures) ∙ c .if1 .left))
+    (i .0, i .1, omega arith, i .3, sorting-silent (i .4) (i .0) (omega arith) (sym (c .before .observes .ensures) ∙ c .if1 .left))
 
 returns : tie.Need-returns Inv-boxes μ-boxes
-returns c = let i = c .before .boxes .inv in sorting-all (i .3) (omega arith)
+returns c = let i = c .before .boxes .inv in sorting-all (i .4) (omega arith)
 
 pub sort-spec : {M : Type 1} → statement M
 sort-spec =
@@ -73,6 +72,7 @@ sort-spec =
     (tie.spec
     Inv-boxes
     μ-boxes
+    befores-requires
     boxes-holds
     observes-requires
     refine-requires

@@ -1,0 +1,77 @@
+-- `needs::outputs::first_seen` meets its contract. The loop's invariant: no state passed counts and has the outputs of s.
+-- Assumes nothing.
+use borrow.Author.Needs.{needs}
+use native.Mathlib.Omega.{arith}
+use mathlib.Core.Path.{_≡_, sym, _∙_}
+use Prim.Native.Nat.{_≤_, _-_}
+use Rattle.reach.specs.Set.{flagAt}
+use Rattle.needs.specs.Tables.{seenIn}
+use Rattle.needs.proofs.Agreeing.{Missed, missed-none, missed-follows, missed-more, missed-hit, missed-all, seen-joined}
+use Rattle.needs.proofs.outputs.first_seen.Statement.{statement}
+use Rattle.needs.proofs.outputs.first_seen.Tie as tie
+
+abbrev Inv-earlier : tie.InvT-earlier
+Inv-earlier outputs owners inside d actions u s t₀ t = (t ≤ s) × Missed (flagAt inside) (seenIn owners outputs actions u) s t
+
+abbrev μ-earlier : tie.MeasureT-earlier
+μ-earlier outputs owners inside d actions u s t₀ t = s - t
+
+earlier-holds : tie.Need-earlier-holds Inv-earlier μ-earlier
+earlier-holds c = (omega arith, missed-none _ _ _)
+
+element-copy-out-wide : tie.Need-element-copy-out-wide Inv-earlier μ-earlier
+element-copy-out-wide c = search needs
+
+wide-requires : tie.Need-wide-requires Inv-earlier μ-earlier
+wide-requires c κs = tt
+
+add-t : tie.Need-add-t Inv-earlier μ-earlier
+add-t c = omega arith
+
+earlier-less : tie.Need-earlier-less Inv-earlier μ-earlier
+earlier-less c = omega arith
+
+earlier-again : tie.Need-earlier-again Inv-earlier μ-earlier
+earlier-again c =
+    let q = c .before .before .before .before .before .before .pre in
+    let g = c .before .before .before .before .before .before .args in
+    (omega arith, missed-follows _ _ _ (seen-joined (g .owners .now) (g .outputs .now) (g .actions) (g .u)) (q .1) (c .before .before .before .earlier-test .taken) (c .before .before .before .before .earlier .inv .1) (c .before .wide .ensures) (c .if1 .taken))
+
+joins-first-requires : tie.Need-joins-first-requires Inv-earlier μ-earlier
+joins-first-requires c κs = search needs
+
+returns : tie.Need-returns Inv-earlier μ-earlier
+returns c =
+    (missed-hit _ _ _ (c .before .before .before .before .before .before .earlier .inv .1) (c .before .before .before .before .before .earlier-test .taken) (sym (c .before .joins-first .ensures) ∙ c .if2 .taken), omega arith)
+
+add-t-2 : tie.Need-add-t-2 Inv-earlier μ-earlier
+add-t-2 c = omega arith
+
+earlier-less-2 : tie.Need-earlier-less-2 Inv-earlier μ-earlier
+earlier-less-2 c = omega arith
+
+earlier-again-2 : tie.Need-earlier-again-2 Inv-earlier μ-earlier
+earlier-again-2 c =
+    (omega arith, missed-more _ _ _ (c .before .before .before .before .before .before .earlier .inv .1) (sym (c .before .joins-first .ensures) ∙ c .if2 .left))
+
+returns-2 : tie.Need-returns-2 Inv-earlier μ-earlier
+returns-2 c = (missed-all _ _ _ (c .before .earlier .inv .1) (c .earlier-test .left), omega arith)
+
+pub first-seen-spec : {M : Type 1} → statement M
+first-seen-spec =
+    tie.close
+    (tie.spec
+    Inv-earlier
+    μ-earlier
+    earlier-holds
+    element-copy-out-wide
+    wide-requires
+    add-t
+    earlier-less
+    earlier-again
+    joins-first-requires
+    returns
+    add-t-2
+    earlier-less-2
+    earlier-again-2
+    returns-2)

@@ -1,0 +1,44 @@
+-- Which states a round looks at again: those with a next state outside the part that is kept of its old class.
+use mathlib.Core.Path.{_≡_}
+use mathlib.Core.Bool.{Bool, true, false}
+use mathlib.Core.List.{List}
+use Prim.Native.Nat.{ℕ, _+_, _*_, _<_}
+use lib.ListN.{length, getD}
+use Rattle.laws.specs.Choice.{either}
+use Rattle.model.specs.Limits.{STATES}
+use Rattle.reach.specs.Set.{flagAt}
+use Rattle.needs.specs.Tables.{stepIn, entry}
+use Rattle.needs.specs.Classes.{lowest, agrees}
+
+-- row x has the states that some action takes to x
+pub record Befores (states actions : ℕ) (next : List ℕ) (before : List Bool) : Type 0 where
+  pub marked : (s a : ℕ) → s < states → a < actions → flagAt before (stepIn actions next s a * STATES + s) ≡ true
+
+-- the marks with row x added
+pub record Merged (before marks marks′ : List Bool) (x : ℕ) : Type 0 where
+  pub long : length marks′ ≡ STATES
+  pub each : (s : ℕ) → s < STATES → flagAt marks′ s ≡ either (flagAt marks s) (flagAt before (x * STATES + s))
+
+-- of a state that is not marked every next state is in the part kept
+pub record Touched (states actions : ℕ) (next c d keep : List ℕ) (marks : List Bool) : Type 0 where
+  pub kept : (s a : ℕ) → s < states → a < actions → flagAt marks s ≡ false →
+      entry d (stepIn actions next s a) ≡ entry keep (entry c (stepIn actions next s a))
+
+-- two states that are not marked and have one class number agree
+pub record Quiet (states actions : ℕ) (next c : List ℕ) (marks : List Bool) : Type 0 where
+  pub agree : (s t : ℕ) → s < states → t < states → flagAt marks s ≡ false → flagAt marks t ≡ false → entry c s ≡ entry c t →
+      agrees (stepIn actions next) actions (entry c) s t ≡ true
+
+-- l is the next class number of a state below n that counts, is not marked and has class number i
+pub record LeadAt (actions : ℕ) (next c : List ℕ) (inside marks : List Bool) (i l n : ℕ) : Type 0 where
+  pub at : ℕ
+  pub below : at < n
+  pub unmarked : flagAt marks at ≡ false
+  pub counts : flagAt inside at ≡ true
+  pub class : entry c at ≡ i
+  pub number : l ≡ lowest (flagAt inside) (agrees (stepIn actions next) actions (entry c)) at
+
+-- what stands at a class number in `lead`, where something does
+pub record Leads (actions : ℕ) (next c lead : List ℕ) (inside marks : List Bool) (n : ℕ) : Type 0 where
+  pub long : length lead ≡ STATES
+  pub known : (i : ℕ) → i < STATES → entry lead i < STATES → LeadAt actions next c inside marks i (entry lead i) n

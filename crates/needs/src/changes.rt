@@ -1,0 +1,98 @@
+// Which states a round must look at again: those with a next state outside the largest part of its old class.
+ghost use mathlib.Core.Path.{_≡_};
+ghost use Prim.Native.Nat.{_<_, _≤_};
+ghost use lib.ListN.{length};
+ghost use Rattle.needs.specs.Tables.{entry, Steps};
+ghost use Rattle.needs.specs.Classes.{Below};
+ghost use Rattle.needs.specs.Again.{Befores, Merged, Touched};
+use crate::PAIRS;
+use crate::numbers::or;
+use crate::numbers::step;
+use crate::numbers::wide;
+use model::STATES;
+
+// The states that lead to each state.
+pub(crate) fn befores(next: &[u16], states: usize, actions: usize) -> [bool; PAIRS]
+    requires { ⌜ Steps states actions (now next) ⌝ }
+    ensures { λ r. ⌜ Befores states actions (now (next .entry)) r ⌝ }
+{
+    let mut before = [false; PAIRS];
+    'states: for s in 0..states {
+        'actions: for a in 0..actions {
+            let x = step(next, states, actions, s, a);
+            before[x * STATES + s] = true;
+        }
+    }
+    before
+}
+
+// Marks the states that lead to x too.
+pub(crate) fn merge(marks: &mut [bool; STATES], before: &[bool; PAIRS], x: usize)
+    requires { ⌜ (x < 128) × (length (now marks) ≡ 128) ⌝ }
+    ensures { λ r. ⌜ Merged (now (before .entry)) (now (marks .entry)) (now (marks .exit)) x ⌝ }
+{
+    'states: for s in 0..STATES {
+        marks[s] = or(marks[s], before[x * STATES + s]);
+    }
+}
+
+// Marks the states with a next state outside the part kept of its old class.
+pub(crate) fn touched(
+    before: &[bool; PAIRS],
+    next: &[u16],
+    c: &[u8; STATES],
+    d: &[u8; STATES],
+    keep: &[u8; STATES],
+    states: usize,
+    actions: usize,
+) -> [bool; STATES]
+    requires { ⌜ Steps states actions (now next) ⌝ }
+    requires { ⌜ Befores states actions (now next) (now before) ⌝ }
+    requires { ⌜ Below states (now c) ⌝ }
+    ensures { λ r. ⌜ Touched states actions (now (next .entry)) (now (c .entry)) (now (d .entry)) (now (keep .entry)) r ⌝ }
+{
+    let mut marks = [false; STATES];
+    'states: for x in 0..states {
+        let old = wide(c[x]);
+        if d[x] == keep[old] {
+            continue 'states;
+        }
+        merge(&mut marks, before, x);
+    }
+    marks
+}
+
+// How many states have each class number.
+pub(crate) fn sizes(d: &[u8; STATES], states: usize) -> [u8; STATES]
+    requires { ⌜ (states ≤ 128) × Below states (now d) ⌝ }
+{
+    let mut sizes = [0u8; STATES];
+    'states: for s in 0..states {
+        let number = wide(d[s]);
+        if 200 <= sizes[number] {
+            continue 'states;
+        }
+        sizes[number] = sizes[number] + 1;
+    }
+    sizes
+}
+
+// The number of the largest part of each class, so that few states are marked. Whatever it is, the rounds are right.
+pub(crate) fn largest(c: &[u8; STATES], d: &[u8; STATES], states: usize) -> [u8; STATES]
+    requires { ⌜ (states ≤ 128) × Below states (now c) ⌝ }
+    requires { ⌜ Below states (now d) ⌝ }
+{
+    let sizes = sizes(d, states);
+    let mut keep = *d;
+    let mut most = [0u8; STATES];
+    'states: for s in 0..states {
+        let old = wide(c[s]);
+        let number = wide(d[s]);
+        if sizes[number] <= most[old] {
+            continue 'states;
+        }
+        most[old] = sizes[number];
+        keep[old] = d[s];
+    }
+    keep
+}
