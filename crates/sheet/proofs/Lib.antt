@@ -1,0 +1,17 @@
+pub mod Collect
+pub mod Fields
+pub mod Taking
+pub mod Going
+pub mod Good
+pub mod Arrows
+pub mod Chain
+pub mod First
+pub mod Outcome
+pub mod Places
+pub mod Inside
+pub mod LabelPlace
+pub mod Sound
+pub mod ByRows
+pub mod Meant
+pub mod Walk
+pub mod Table

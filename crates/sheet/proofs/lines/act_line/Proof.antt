@@ -1,0 +1,55 @@
+-- `sheet::act_line` meets its contract. Assumes nothing.
+use mathlib.Core.Path.{sym, _∙_}
+use borrow.Author.Tests.{lt-ltb, le-ltb}
+use Rattle.sheet.specs.Records.{actLine}
+use borrow.Author.Needs.{needs}
+use Rattle.sheet.proofs.lines.act_line.Statement.{statement}
+use Rattle.sheet.proofs.lines.act_line.Tie as tie
+
+slice-aggregate-record-of : tie.Need-slice-aggregate-record-of
+slice-aggregate-record-of c = search needs
+
+slice-aggregate-record-of-2 : tie.Need-slice-aggregate-record-of-2
+slice-aggregate-record-of-2 c = search needs
+
+record-of-requires : tie.Need-record-of-requires
+record-of-requires c κs = search needs
+
+enum-known-e : tie.Need-enum-known-e
+enum-known-e c = search needs
+
+enum-known-id : tie.Need-enum-known-id
+enum-known-id c = search needs
+
+position-requires : tie.Need-position-requires
+position-requires c κs = search needs
+
+cast-t16 : tie.Need-cast-t16
+cast-t16 c = search needs
+
+returns : tie.Need-returns
+unfolding actLine
+returns c = rw (sym (c .before .before .before .before .before .record-of .ensures) ∙ c .before .before .before .id .given .1, ← c .before .position .ensures, lt-ltb _ _ (c .if1 .taken))
+
+returns-2 : tie.Need-returns-2
+unfolding actLine
+returns-2 c = rw (sym (c .before .before .before .record-of .ensures) ∙ c .before .e .given .1)
+
+returns-3 : tie.Need-returns-3
+unfolding actLine
+returns-3 c = rw (sym (c .before .before .before .before .before .record-of .ensures) ∙ c .before .before .before .id .given .1, ← c .before .position .ensures, le-ltb _ _ (c .if1 .left))
+
+pub act-line-spec : {M : Type 1} → statement M
+act-line-spec =
+    tie.close
+    (tie.spec
+    slice-aggregate-record-of
+    slice-aggregate-record-of-2
+    record-of-requires
+    enum-known-e
+    enum-known-id
+    position-requires
+    cast-t16
+    returns
+    returns-2
+    returns-3)

@@ -1,0 +1,55 @@
+-- `sheet::position` meets its contract: none of the ids passed is the one looked for. Assumes nothing.
+use Prim.Native.Nat.{_-_}
+use mathlib.Core.Path.{_≡_, sym, _∙_}
+use native.Mathlib.Omega.{arith}
+use lib.ListN.{length}
+use Rattle.text.specs.Lines.{before, endOf}
+use Rattle.text.proofs.Parts.{end-here, end-past, end-over}
+use borrow.Author.Needs.{needs}
+use Rattle.sheet.proofs.lines.position.Statement.{statement}
+use Rattle.sheet.proofs.lines.position.Tie as tie
+
+abbrev Inv-loop : tie.InvT-loop
+Inv-loop ids id k₀ k = endOf id ids k ≡ before id ids
+
+abbrev μ-loop : tie.MeasureT-loop
+μ-loop ids id k₀ k = length ids - k
+
+loop-holds : tie.Need-loop-holds Inv-loop μ-loop
+loop-holds c = omega arith
+
+mul-if1 : tie.Need-mul-if1 Inv-loop μ-loop
+mul-if1 c = search needs
+
+shared-slice-read-if1 : tie.Need-shared-slice-read-if1 Inv-loop μ-loop
+shared-slice-read-if1 c = search needs
+
+returns : tie.Need-returns Inv-loop μ-loop
+returns c = sym (end-here _ _ _ (omega arith) (c .if1 .taken)) ∙ c .before .before .before .loop .inv
+
+add-k : tie.Need-add-k Inv-loop μ-loop
+add-k c = search needs
+
+loop-less : tie.Need-loop-less Inv-loop μ-loop
+loop-less c = search needs
+
+loop-again : tie.Need-loop-again Inv-loop μ-loop
+loop-again c = sym (end-past _ _ _ (omega arith) (c .if1 .left)) ∙ c .before .before .before .loop .inv
+
+returns-2 : tie.Need-returns-2 Inv-loop μ-loop
+returns-2 c = sym (end-over _ (c .before .before .args .id) _ (omega arith)) ∙ c .before .loop .inv
+
+pub position-spec : {M : Type 1} → statement M
+position-spec =
+    tie.close
+    (tie.spec
+    Inv-loop
+    μ-loop
+    loop-holds
+    mul-if1
+    shared-slice-read-if1
+    returns
+    add-k
+    loop-less
+    loop-again
+    returns-2)

@@ -1,0 +1,201 @@
+// Bytes: decimal numbers both ways, lines and fields, and writing into a lent tail. Every function takes anything.
+ghost use mathlib.Core.Path.{_≡_};
+ghost use Prim.Native.Nat.{_+_};
+ghost use Rattle.text.specs.Number.{digit, decimal};
+ghost use Rattle.text.specs.Lines.{same, endOf, lineFrom, numberFrom, moreFrom};
+ghost use Rattle.text.specs.Written.{Written, fitting};
+
+// What a field of digits says.
+pub enum Number {
+    Good(u32),
+    Bad,
+}
+
+// A number's field: what it says, and where it ends.
+pub struct Field {
+    pub number: Number,
+    pub end: usize,
+}
+
+// A line without its LF, with the place of the next; or the text has ended.
+pub enum Line {
+    At {
+        start: usize,
+        end: usize,
+        next: usize,
+    },
+    End,
+}
+
+// Where the first `b` stands at `at` or after it.
+pub fn find(s: &[u8], at: usize, b: u8) -> usize
+    ensures { λ r. ⌜ r ≡ endOf b (now (s .entry)) at ⌝ }
+{
+    let mut i = at;
+    while i < s.len() {
+        if s[i] == b {
+            return i;
+        }
+        i += 1;
+    }
+    i
+}
+
+// The line that starts at `at`.
+pub fn find_line(text: &[u8], at: usize) -> Line
+    ensures { λ r. ⌜ r ≡ lineFrom (now (text .entry)) at ⌝ }
+{
+    if text.len() <= at {
+        return Line::End;
+    }
+    let end = find(text, at, 10);
+    Line::At {
+        start: at,
+        end,
+        next: end + 1,
+    }
+}
+
+// A reader: the bytes of a text, and a place in them.
+pub struct Reader<'a> {
+    pub text: &'a [u8],
+    pub at: usize,
+}
+
+pub fn open_at<'a>(text: &'a [u8], at: usize) -> Reader<'a>
+    ensures { λ r. ⌜ (r .text ≡ text .entry) × (r .at ≡ at) ⌝ }
+{
+    Reader { text, at }
+}
+
+// The line at the reader's place, with the place of the next.
+pub fn next_line<'a>(reader: Reader<'a>) -> Line
+    ensures { λ r. ⌜ r ≡ lineFrom (now (reader .entry .text)) (reader .entry .at) ⌝ }
+{
+    find_line(reader.text, reader.at)
+}
+
+// The line at a place, through a reader: whoever calls this goes by a text and a number.
+pub fn line_from(text: &[u8], at: usize) -> Line
+    ensures { λ r. ⌜ r ≡ lineFrom (now (text .entry)) at ⌝ }
+{
+    next_line(open_at(text, at))
+}
+
+// Are the bytes of `a` those of `b`.
+pub fn same(a: &[u8], b: &[u8]) -> bool
+    ensures { λ r. ⌜ r ≡ same (now (a .entry)) (now (b .entry)) ⌝ }
+{
+    let mut i = 0;
+    while i < a.len() {
+        if b.len() <= i {
+            return false;
+        }
+        if a[i] != b[i] {
+            return false;
+        }
+        i += 1;
+    }
+    i == b.len()
+}
+
+// The value with one digit more.
+fn grown(limit: u32, value: u32, byte: u8) -> Number
+    ensures { λ r. ⌜ r ≡ digit limit value byte ⌝ }
+{
+    if byte < 48 {
+        return Number::Bad;
+    }
+    if 57 < byte {
+        return Number::Bad;
+    }
+    let v = (value as u64) * 10 + ((byte - 48) as u64);
+    if (limit as u64) < v {
+        return Number::Bad;
+    }
+    Number::Good(v as u32)
+}
+
+// The number in the field that starts at `at`: one walk finds its value and its end.
+pub fn number_from(line: &[u8], at: usize, limit: u32) -> Field
+    ensures { λ r. ⌜ r ≡ numberFrom limit (now (line .entry)) at ⌝ }
+{
+    if line.len() <= at {
+        return Field {
+            number: Number::Bad,
+            end: at,
+        };
+    }
+    let Number::Good(first) = grown(limit, 0, line[at]) else {
+        return Field {
+            number: Number::Bad,
+            end: find(line, at, 9),
+        };
+    };
+    more_from(line, at + 1, limit, first)
+}
+
+// The same, after the digits that made `first`.
+fn more_from(line: &[u8], at: usize, limit: u32, first: u32) -> Field
+    ensures { λ r. ⌜ r ≡ moreFrom limit (now (line .entry)) at first ⌝ }
+{
+    let mut value = first;
+    let mut i = at;
+    while i < line.len() {
+        if line[i] == 9 {
+            return Field {
+                number: Number::Good(value),
+                end: i,
+            };
+        }
+        if value == 0 {
+            return Field {
+                number: Number::Bad,
+                end: find(line, i, 9),
+            };
+        }
+        let Number::Good(v) = grown(limit, value, line[i]) else {
+            return Field {
+                number: Number::Bad,
+                end: find(line, i, 9),
+            };
+        };
+        value = v;
+        i += 1;
+    }
+    Field {
+        number: Number::Good(value),
+        end: i,
+    }
+}
+
+// The bytes written at the front of a lent tail, and their count; nothing where they have no room.
+pub fn put_bytes(tail: &mut [u8], bytes: &[u8]) -> usize
+    ensures { λ r. ⌜ Written (now (tail .entry)) (now (tail .exit)) r (fitting (now (tail .entry)) (now (bytes .entry))) ⌝ }
+{
+    if tail.len() < bytes.len() {
+        return 0;
+    }
+    let mut i = 0;
+    while i < bytes.len() {
+        tail[i] = bytes[i];
+        i += 1;
+    }
+    i
+}
+
+// A number written in decimal, likewise.
+pub fn put_number(tail: &mut [u8], value: u32) -> usize
+    ensures { λ r. ⌜ Written (now (tail .entry)) (now (tail .exit)) r (fitting (now (tail .entry)) (decimal value)) ⌝ }
+{
+    let mut digits = [0u8; 10];
+    let mut left = value;
+    let mut i: usize = 9;
+    while 10 <= left {
+        digits[i] = (48 + left % 10) as u8;
+        left = left / 10;
+        i -= 1;
+    }
+    digits[i] = (48 + left) as u8;
+    put_bytes(tail, &digits[i..])
+}
