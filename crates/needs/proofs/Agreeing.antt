@@ -1,6 +1,6 @@
 -- What the loops answer that compare states.
 -- Assumes nothing.
-use mathlib.Core.Path.{_≡_, refl, sym, _∙_, ap, subst}
+use mathlib.Core.Path.{_≡_, sym, _∙_, ap}
 use mathlib.Core.Logic.{⊎-elim}
 use mathlib.Core.Bool.{Bool, true, false}
 use mathlib.Core.List.{List}
@@ -13,13 +13,13 @@ use lib.Dec.{eqb}
 use lib.ListN.{length, getD, set, length-set}
 use lib.Seq.{getD-set-same, getD-set-other}
 use Rattle.laws.specs.Choice.{both, brings}
-use Rattle.laws.specs.Range.{every, first, Held}
+use Rattle.laws.specs.Range.{first, Held}
 use Rattle.laws.proofs.Tests.{by-test, not-both, both-of, both-true, both-no, brings-of, brings-at}
 use Rattle.laws.proofs.Range.{every-at, every-of, every-held, every-not, held-more, first-at, first-none}
 use Rattle.laws.proofs.Cells.{cell, row}
 use Rattle.model.specs.Limits.{STATES, ACTIONS}
-use Rattle.needs.specs.Tables.{stepIn, entry, seenIn, Steps}
-use Rattle.needs.specs.Classes.{lowest, agrees, unchanged, Below, Led}
+use Rattle.needs.specs.Tables.{entry, seenIn, Steps}
+use Rattle.needs.specs.Classes.{lowest, agrees, Below, Led}
 use Rattle.needs.proofs.Classes.{lowest-le, lowest-holds}
 
 -- ---- the cells of the tables

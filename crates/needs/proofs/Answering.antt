@@ -1,23 +1,21 @@
 -- What is answered: the flags are copied, and what was sorted out and written is what the definitions say.
 -- Assumes nothing.
 use mathlib.Core.Path.{_≡_, refl, sym, _∙_, ap, ap₂, subst}
-use mathlib.Core.Logic.{_↔_}
 use mathlib.Core.Bool.{Bool, true, false}
 use mathlib.Core.List.{List, [], _∷_, _++_}
-use Prim.Native.Nat.{ℕ, zero, suc, _+_, _*_, _<_, _≤_}
-use native.Mathlib.Nat.{not-suc-le-zero, le-refl}
+use Prim.Native.Nat.{ℕ, zero, suc, _+_, _<_, _≤_}
+use native.Mathlib.Nat.{not-suc-le-zero}
 use native.Mathlib.Omega.{arith}
 use borrow.Author.Count.{below-more}
 use borrow.Author.Tests.{eq-eqb, ne-eqb, ltb-true, ltb-false}
 use lib.Dec.{eqb, ltb}
-use lib.ListN.{length, getD, set, length-set, replicate, length-replicate}
+use lib.ListN.{length, set, length-set, replicate}
 use lib.Seq.{getD-set-same, getD-set-other, ext-getD}
 use Rattle.laws.specs.Choice.{both, choose}
-use Rattle.laws.specs.Range.{count, tabulate}
-use Rattle.laws.proofs.Tests.{by-test, not-both, agree, both-of, both-no, false-of}
+use Rattle.laws.specs.Range.{count}
+use Rattle.laws.proofs.Tests.{by-test, agree, both-of, both-no, false-of}
 use Rattle.noninterference.specs.Machine as noninterference
 use Rattle.noninterference.specs.Machine.{Closed}
-use Rattle.noninterference.specs.Needed.{Arrow, arrow}
 use Rattle.noninterference.specs.Reached.{Reach, reached}
 use Rattle.noninterference.specs.Rounds.{depthIn, neededIn, depthOf, neededList, arrowsFrom, arrowsUpto}
 use Rattle.noninterference.proofs.Reached.{reach, reach-count}
@@ -37,9 +35,9 @@ use Rattle.reach.proofs.Tables.{tabulated, count-beyond}
 use Rattle.needs.specs.Marks.{wantedIn, SortedOut}
 use Rattle.needs.specs.Rounds.{Known}
 use Rattle.needs.specs.Listed.{padded, Written}
-use Rattle.needs.specs.Answered.{depthsOf, foundIn, refusedWith, lengthsFit, neededOf, listOf}
+use Rattle.needs.specs.Answered.{told, depthsOf, foundIn, refusedWith, lengthsFit, neededOf, listOf}
 use Rattle.needs.specs.declared.Needs.{Needs}
-use Rattle.needs.specs.declared.Outcome.the-variants.{Found, Refused}
+use Rattle.needs.specs.declared.Outcome.the-variants.{Found}
 
 -- ---- a copy, flag by flag
 pub record CopiedTo (flags from : List Bool) (n : ℕ) : Type 0 where
@@ -182,3 +180,16 @@ pub known-of : (m : Machine) (next outputs : List ℕ) (set : Set) → length ne
 known-of m next outputs set e f q =
     subst (λ l. Known (machineOf m next outputs) (flagAt l)) (sym q)
     (record { small = flags-small m next outputs e f; reach = flags-reach m next outputs e f })
+
+-- the numbers of each case: of the refusal, its line, of pairs, of reachable states
+pub told-needed : (m : Machine) (next outputs list : List ℕ) →
+    told (neededOf m next outputs list .outcome)
+    ≡ choose (lengthsFit next outputs list)
+    (choose (machineTableFits m next)
+    (0 ∷ 0 ∷ length (neededList (machineOf m next outputs)) ∷ count (m .states) (reached (machineOf m next outputs)) ∷ []) (12 ∷ 0 ∷ 0 ∷ 0 ∷ []))
+    (10 ∷ 0 ∷ 0 ∷ 0 ∷ [])
+unfolding neededOf choose
+told-needed m next outputs list =
+    by-test (lengthsFit next outputs list)
+    (λ e. by-test (machineTableFits m next) (λ f. rw (e, f)) (λ f. rw (e, f)))
+    (λ e. rw e)

@@ -1,9 +1,9 @@
 -- Classes named by their first members: they tell what is alike, the next round's come of this round's, and a round that changes none is the last.
 -- Assumes nothing.
-use mathlib.Core.Path.{_≡_, refl, sym, _∙_, ap, subst}
+use mathlib.Core.Path.{_≡_, refl, sym, _∙_, subst}
 use mathlib.Core.Logic.{⊎-elim}
 use mathlib.Core.Bool.{Bool, true, false}
-use Prim.Native.Nat.{ℕ, suc, _+_, _<_, _≤_}
+use Prim.Native.Nat.{ℕ, _+_, _<_, _≤_}
 use native.Mathlib.Nat.{eq-or-lt-of-le}
 use native.Mathlib.Numerals.{add-one}
 use native.Mathlib.Omega.{arith}
@@ -12,12 +12,10 @@ use borrow.Author.Count.{below-more}
 use borrow.Author.Tests.{eqb-true, eq-eqb}
 use Rattle.laws.specs.Choice.{both, brings}
 use Rattle.laws.specs.Range.{every, first, count}
-use Rattle.laws.proofs.Tests.{by-test, not-both, agree, both-of, both-true, brings-at, brings-of}
+use Rattle.laws.proofs.Tests.{not-both, agree, both-of, both-true, brings-at, brings-of}
 use Rattle.laws.proofs.Range.{by-order, every-at, every-of, first-le, first-holds, first-least, first-at}
 use Rattle.laws.proofs.Count.{Equivalent, count-le}
-use Rattle.noninterference.specs.Machine.{Machine, Reachable}
-use Rattle.noninterference.specs.Depth.{Stable}
-use Rattle.noninterference.specs.Reached.{Reach}
+use Rattle.noninterference.specs.Machine.{Machine}
 use Rattle.noninterference.specs.Rounds.{alike, stable, depthIn}
 use Rattle.noninterference.proofs.Runs.{reachable-closed}
 use Rattle.noninterference.proofs.Same.{within-equivalence, within-less}

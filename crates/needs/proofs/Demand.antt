@@ -1,32 +1,32 @@
 -- Demand 3 holds of the contract's definition.
 -- Assumes nothing.
-use mathlib.Core.Path.{_≡_, refl, sym, _∙_, ap, subst}
+use mathlib.Core.Path.{_≡_, refl, sym, _∙_, subst}
 use mathlib.Core.Logic.{_↔_}
-use mathlib.Core.Bool.{Bool, true, false}
-use mathlib.Core.List.{List, [], _∷_}
-use Prim.Native.Nat.{ℕ, _+_, _*_, _-_, _<_, _≤_}
+use mathlib.Core.Bool.{true}
+use mathlib.Core.List.{List}
+use Prim.Native.Nat.{ℕ, _*_, _<_, _≤_}
 use native.Mathlib.Omega.{arith}
 use borrow.Author.Tests.{lt-ltb, le-ltb, ltb-true, ltb-false}
 use lib.Dec.{ltb}
-use lib.ListN.{length, getD, take, drop, replicate}
+use lib.ListN.{length, getD}
 use lib.Seq.{take-at, drop-at}
 use Rattle.laws.specs.Choice.{choose}
-use Rattle.laws.specs.Range.{count, tabulate}
+use Rattle.laws.specs.Range.{count}
 use Rattle.laws.proofs.Tests.{by-test}
 use Rattle.laws.proofs.Cells.{beyond}
 use Rattle.noninterference.specs.Machine as noninterference
 use Rattle.noninterference.specs.Machine.{Closed, Owned}
 use Rattle.noninterference.specs.Purge.{Policy, plain}
 use Rattle.noninterference.specs.Secure.{Secure, Reflexive}
-use Rattle.noninterference.specs.Needed.{Covers, Needed, arrow, Member, NeededList}
+use Rattle.noninterference.specs.Needed.{Covers, arrow, Member, NeededList}
 use Rattle.noninterference.specs.Depth.{Depth}
-use Rattle.noninterference.specs.Reached.{Reach, reached}
+use Rattle.noninterference.specs.Reached.{reached}
 use Rattle.noninterference.specs.Rounds.{depthOf, neededList}
 use Rattle.noninterference.proofs.Needed.{secure↔covers}
 use Rattle.noninterference.proofs.NeededList.{needed-list, list-length, no-self, once}
 use Rattle.noninterference.proofs.Reached.{reach, reach-count}
 use Rattle.noninterference.proofs.Rounds.{depth-computed, depth-below, depth-unique, depth-silent}
-use Rattle.model.specs.Limits.{BOXES, LIST-ENTRIES}
+use Rattle.model.specs.Limits.{BOXES}
 use Rattle.model.specs.Denoted.{machineOf}
 use Rattle.model.specs.Refused.{machineTableFits}
 use Rattle.model.specs.Good.{GoodTable}

@@ -10,10 +10,10 @@ use native.Mathlib.Omega.{arith}
 use borrow.Author.Count.{below-more}
 use borrow.Author.Tests.{eqb-true, eqb-false}
 use lib.Dec.{eqb}
-use lib.ListN.{length, getD, set, length-set, replicate, length-replicate, getD-replicate}
+use lib.ListN.{length, set, length-set, replicate, length-replicate, getD-replicate}
 use lib.Seq.{getD-set-same, getD-set-other}
 use Rattle.laws.specs.Choice.{either}
-use Rattle.laws.proofs.Tests.{by-test, not-both, either-false}
+use Rattle.laws.proofs.Tests.{not-both, either-false}
 use Rattle.model.specs.Limits.{STATES}
 use Rattle.reach.specs.Set.{flagAt}
 use Rattle.reach.proofs.Tables.{set-true, set-stays}

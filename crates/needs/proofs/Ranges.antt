@@ -1,11 +1,10 @@
 -- Tests over a range that agree at each number, and how a loop answers.
 -- Assumes nothing.
-use mathlib.Core.Path.{_≡_, refl, sym, _∙_, ap, subst}
+use mathlib.Core.Path.{_≡_, refl, sym}
 use mathlib.Core.Bool.{Bool, true, false, not}
-use Prim.Native.Nat.{ℕ, zero, suc, _+_, _<_, _≤_}
+use Prim.Native.Nat.{ℕ, zero, suc, _<_, _≤_}
 use native.Mathlib.Omega.{arith}
 use borrow.Author.Tests.{not-true}
-use Rattle.laws.specs.Choice.{both, either}
 use Rattle.laws.specs.Range.{every, some, Held}
 use Rattle.laws.proofs.Range.{every-held, every-not, some-of, some-none}
 

@@ -1,10 +1,9 @@
 -- The rounds of one box, over the tables.
 -- Assumes nothing.
-use mathlib.Core.Path.{_≡_, refl, sym, _∙_, ap, subst}
+use mathlib.Core.Path.{_≡_}
 use mathlib.Core.Bool.{Bool, true, false}
 use mathlib.Core.List.{List}
-use Prim.Native.Nat.{ℕ, _+_, _<_, _≤_}
-use Rattle.laws.specs.Range.{every}
+use Prim.Native.Nat.{ℕ, _+_, _<_}
 use Rattle.noninterference.specs.Rounds.{seesAlike, alike}
 use lib.ListN.{replicate}
 use Rattle.model.specs.Limits.{STATES}
@@ -13,7 +12,7 @@ use Rattle.model.specs.Good.{GoodTable}
 use Rattle.model.specs.declared.Machine.{Machine}
 use Rattle.reach.specs.Set.{flagAt}
 use Rattle.needs.specs.Tables.{stepIn, entry, seenIn, Steps}
-use Rattle.needs.specs.Classes.{lowest, agrees, unchanged, Below, Led}
+use Rattle.needs.specs.Classes.{agrees, unchanged, Below, Led}
 use Rattle.needs.specs.Again.{Befores, Touched, Quiet}
 use Rattle.needs.specs.Rounds.{Known, AtRound, Refined}
 use Rattle.needs.proofs.Classes.{round-first, round-below, round-more, round-last}

@@ -1,6 +1,6 @@
 -- What is answered: the flags of a worklist that is done are those of the definition, and a refused call's are empty.
 -- Assumes nothing.
-use mathlib.Core.Path.{_≡_, refl, sym, _∙_, ap, subst}
+use mathlib.Core.Path.{_≡_, refl, sym, _∙_, ap}
 use mathlib.Core.Logic.{_↔_}
 use mathlib.Core.Bool.{Bool, true, false}
 use mathlib.Core.List.{List, []}
@@ -8,9 +8,9 @@ use Prim.Native.Nat.{ℕ, zero, suc, _<_, _≤_}
 use native.Mathlib.Omega.{arith}
 use borrow.Author.Tests.{eq-eqb, ne-eqb, lt-ltb, ltb-true, ltb-false}
 use lib.Dec.{eqb, ltb}
-use lib.ListN.{length, getD, replicate, length-replicate, getD-replicate}
+use lib.ListN.{length, replicate, getD-replicate}
 use Rattle.laws.specs.Choice.{both, either, choose}
-use Rattle.laws.specs.Range.{some, tabulate}
+use Rattle.laws.specs.Range.{some}
 use Rattle.laws.proofs.Tests.{by-test, not-both, agree, both-of, both-true, both-no}
 use Rattle.laws.proofs.Cells.{beyond}
 use Rattle.noninterference.specs.Machine.{Reachable}
@@ -19,15 +19,13 @@ use Rattle.noninterference.proofs.Reached.{reach}
 use Rattle.model.specs.Limits.{STATES, NEXT-ENTRIES}
 use Rattle.model.specs.Denoted.{machineOf, nextAt}
 use Rattle.model.specs.Refused.{machineTableFits}
-use Rattle.model.specs.Good.{GoodTable}
 use Rattle.model.specs.declared.Machine.{Machine}
 use Rattle.model.proofs.Good.{table-good}
 use Rattle.model.proofs.Denoted.{closed}
-use Rattle.reach.specs.Set.{listed, flagAt, has, size}
+use Rattle.reach.specs.Set.{listed, flagAt}
 use Rattle.reach.specs.Explored.{moving, Complete}
 use Rattle.reach.specs.Answered.{outcomeOf, flagsOf}
 use Rattle.reach.specs.declared.Set.{Set}
-use Rattle.reach.specs.declared.Outcome.{Outcome}
 use Rattle.reach.specs.declared.Outcome.the-variants.{Found, Refused}
 use Rattle.reach.proofs.Tables.{tabulated, tabulate-at, length-tabulate}
 

@@ -3,7 +3,7 @@
 use mathlib.Core.Path.{_≡_, refl, sym, _∙_, ap, subst}
 use mathlib.Core.Logic.{_⊎_, inl, inr, ⊎-elim, _≢_}
 use mathlib.Core.Bool.{Bool, true, false}
-use mathlib.Core.List.{List, []}
+use mathlib.Core.List.{List}
 use Prim.Native.Nat.{ℕ, _+_, _*_, _<_, _≤_}
 use native.Mathlib.Nat.{not-suc-le-zero, le-trans}
 use native.Mathlib.Omega.{arith}
@@ -12,12 +12,10 @@ use borrow.Author.Tests.{eqb-true, eqb-false, ltb-true, ltb-false}
 use lib.Dec.{eqb, ltb}
 use lib.ListN.{length, getD, set, length-set, replicate, length-replicate, getD-replicate, List·getD-eq-default}
 use lib.Seq.{getD-set-same, getD-set-other}
-use Rattle.laws.specs.Choice.{both}
 use Rattle.laws.specs.Range.{count}
 use Rattle.laws.proofs.Tests.{by-test, not-both}
 use Rattle.laws.proofs.Count.{count-le, count-less, count-same}
 use Rattle.noninterference.specs.Machine.{Reachable, Closed}
-use Rattle.noninterference.specs.Reached.{Reach}
 use Rattle.noninterference.proofs.Runs.{reachable-closed, reachable-in}
 use Rattle.model.specs.Limits.{STATES, ACTIONS}
 use Rattle.model.specs.Denoted.{nextAt}

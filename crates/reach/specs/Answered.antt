@@ -1,6 +1,6 @@
 -- What `reached` answers.
-use mathlib.Core.Bool.{Bool, true, false}
-use mathlib.Core.List.{List}
+use mathlib.Core.Bool.{Bool}
+use mathlib.Core.List.{List, [], _∷_}
 use Prim.Native.Nat.{ℕ}
 use lib.Dec.{eqb, ltb}
 use lib.ListN.{length}
@@ -13,6 +13,11 @@ use Rattle.model.specs.declared.Machine.{Machine}
 use Rattle.reach.specs.Explored.{moving}
 use Rattle.reach.specs.declared.Outcome.{Outcome}
 use Rattle.reach.specs.declared.Outcome.the-variants.{Found, Refused}
+
+-- the numbers that a case stands for: of the refusal, and its line
+abbrev pub told : Outcome → List ℕ
+told Found = 0 ∷ 0 ∷ []
+told (Refused number line) = number ∷ line ∷ []
 
 -- refused: 10 for a table of another length, 12 for a machine or a next state that breaks the rules
 unfoldable pub outcomeOf : Machine → List ℕ → Outcome

@@ -18,9 +18,9 @@ use Rattle.sheet.specs.declared.Due.{Due}
 use Rattle.sheet.specs.declared.Due.the-variants as due
 use Rattle.sheet.specs.Words as words
 use Rattle.sheet.specs.Numbers.{onRecord, four, each, numbers, word, rest, recordOf}
-use Rattle.sheet.specs.Records.{sized, known, labelGood, boxOf, sheetLine, boxLine, actLine, goLine, arrowLine, viewLine, lineDue}
+use Rattle.sheet.specs.Records.{sheetLimits, actLimits, goLimits, arrowLimits, viewLimits, sized, known, labelGood, boxOf, sheetLine, boxLine, actLine, goLine, arrowLine, viewLine, lineDue}
 use Rattle.sheet.specs.Meaning.{FirstRow, here, later, NoRow, none, more}
-use Rattle.sheet.specs.Table.{Row, byRows, isBad, valueOf, someBad, values, nth, opening, sheetLimits, actLimits, goLimits, arrowLimits, viewLimits, sheetMore, sheetSays, actMore, actSays, goMore, goSays, arrowMore, arrowSays, viewMore, viewSays, boxId, boxRows, rows, says}
+use Rattle.sheet.specs.Table.{Row, byRows, isBad, valueOf, someBad, values, nth, opening, sheetMore, sheetSays, actMore, actSays, goMore, goSays, arrowMore, arrowSays, viewMore, viewSays, boxId, boxRows, rows, says}
 
 flip : {A : Type 0} (t : Bool) (x y : A) → cond t x y ≡ cond (not t) y x
 flip true x y = refl

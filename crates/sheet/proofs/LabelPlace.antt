@@ -1,27 +1,28 @@
 -- Where a label stands: within its line, and its line within the text. Assumes nothing.
-use Prim.Native.Nat.{ℕ, suc, _+_, _-_, _<_, _≤_}
+use Prim.Native.Nat.{ℕ, zero, suc, _+_, _-_, _<_, _≤_}
 use mathlib.Core.Path.{_≡_, refl, sym, ap, _∙_}
 use mathlib.Core.List.{List, [], _∷_}
 use mathlib.Core.Bool.{Bool, true, false, cond}
 use native.Mathlib.Omega.{arith}
+use native.Mathlib.Nat.{sub-zero, zero-sub, suc-sub-suc}
 use native.Mathlib.Numerals.{add-one}
 use native.Mathlib.Decide.{decLt}
 use borrow.Author.Tests.{ltb-true, lt-ltb, le-ltb}
 use lib.ListN.{length, getD, take, drop, set, length-drop}
-use lib.Seq.{length-take-le}
+use lib.Seq.{length-take-le, take-all, take-nil, drop-drop}
 use lib.Dec.{ltb}
 use Rattle.model.specs.Limits.{BOXES}
-use Rattle.text.specs.Lines.{lines, endOf, lineAt, fieldsAt, fieldFrom, Ended}
+use Rattle.text.specs.Lines.{before, lines, endOf, lineAt, fieldsAt, fieldFrom, Ended}
 use Rattle.text.proofs.Parts.{fields-none, fields-next, line-ends}
 use Rattle.sheet.specs.declared.Found.the-variants.{At, Refused}
 use Rattle.sheet.specs.declared.Place.{Place}
 use Rattle.sheet.specs.declared.Answer.{Answer}
 use Rattle.sheet.specs.declared.Answer.the-variants as answer
 use Rattle.sheet.specs.Numbers.{rest}
-use Rattle.sheet.specs.Records.{boxLine}
+use Rattle.sheet.specs.Records.{boxLine, labelGood}
 use Rattle.sheet.specs.Phases.{boxes}
 use Rattle.sheet.specs.Reading.{Parts, parts, Reading, model, refusal, sheetText, readingOf}
-use Rattle.sheet.specs.Label.{thirdField, boxStart, labelPlace, placed, foundIn, labelFound}
+use Rattle.sheet.specs.Label.{thirdField, boxStart, labelPlace, placed, foundIn, labelFound, label}
 use Rattle.sheet.proofs.Fields.{rest-from}
 use Rattle.sheet.proofs.Good.{sheet-good, Boxed, box-good}
 use Rattle.sheet.proofs.Places.{line-there}
@@ -157,3 +158,38 @@ module _ (t : List ℕ) (a : Answer) (x : Parts) (h : readingOf a x ≡ sheetTex
     pub found-none : k ≤ position → Refused 13 0 ≡ labelFound t position
     unfolding labelFound
     found-none g = rw (is-model, le-ltb position k g)
+
+-- the third field of a line that has three stands from its start to the line's end
+third-is : (l : List ℕ) → length (rest l) ≡ 2 → getD (rest l) 1 [] ≡ drop (thirdField l) l
+third-is l h =
+    let e : rest l ≡ fieldFrom l (endOf 9 l 0 + 1) ∷ fieldsAt l (thirdField l) = sym (rest-from l (endOf 9 l 0) refl) ∙ fields-next l (endOf 9 l 0 + 1) (second-within l h) in
+    let f : fieldsAt l (thirdField l) ≡ fieldFrom l (thirdField l) ∷ fieldsAt l (endOf 9 l (thirdField l) + 1) = fields-next l (thirdField l) (third-within l h) in
+    let n : length (fieldsAt l (endOf 9 l (thirdField l) + 1)) ≡ 0 = omega (arith, ap length e, ap length f) in
+    rw (e, f) (go (decLt (endOf 9 l (thirdField l)) (length l)) n)
+  where
+    go : Dec (endOf 9 l (thirdField l) < length l) → length (fieldsAt l (endOf 9 l (thirdField l) + 1)) ≡ 0 → fieldFrom l (thirdField l) ≡ drop (thirdField l) l
+    go (yes g) n = absurd (omega (arith, ap length (fields-next l (endOf 9 l (thirdField l) + 1) (omega arith))))
+    go (no g) n = take-all (before 9 (drop (thirdField l) l)) (drop (thirdField l) l) (omega (arith, length-drop (thirdField l) l))
+
+drop-take : (k m : ℕ) (xs : List ℕ) → take (m - k) (drop k xs) ≡ drop k (take m xs)
+drop-take zero m xs = rw sub-zero
+drop-take (suc k) zero xs = rw zero-sub
+drop-take (suc k) (suc m) [] = rw (suc-sub-suc, take-nil)
+drop-take (suc k) (suc m) (x ∷ xs) = rw suc-sub-suc (drop-take k m xs)
+
+part-of : (t : List ℕ) (at end k : ℕ) → take (end - (at + k)) (drop (at + k) t) ≡ drop k (take (end - at) (drop at t))
+part-of t at end k =
+    let m : end - (at + k) ≡ (end - at) - k = omega arith in
+    rw (m, ← drop-drop k at t) (drop-take k (end - at) (drop at t))
+
+found-bytes : (t : List ℕ) {a b c d : ℕ} {p : Parts} → sheetText t ≡ model a b c d p → (position : ℕ) → position < c → label t position .bytes ≡ drop (thirdField (lineAt t (boxStart t position))) (lineAt t (boxStart t position))
+unfolding labelFound
+found-bytes t {a} {b} {c} h position g = rw (h, lt-ltb position c g) (part-of t (boxStart t position) (endOf 10 t (boxStart t position)) (thirdField (lineAt t (boxStart t position))))
+
+-- the label that is found is the third field of the position's `box` line, and a good label
+pub label-is : (t : List ℕ) {a b c d : ℕ} {p : Parts} → sheetText t ≡ model a b c d p → (position : ℕ) → position < c
+    → (label t position .bytes ≡ getD (rest (getD (lines t) (position + 1) [])) 1 []) × (labelGood (label t position .bytes) ≡ true)
+label-is t h position g =
+    let w = box-there t h position g in
+    let third : label t position .bytes ≡ getD (rest (lineAt t (boxStart t position))) 1 [] = found-bytes t h position g ∙ sym (third-is (lineAt t (boxStart t position)) (w .is .three)) in
+    (third ∙ ap (λ (l : List ℕ). getD (rest l) 1 []) (line-there (w .closed) (position + 1) (w .there)), ap (λ (l : List ℕ). labelGood l) third ∙ w .is .label)

@@ -11,6 +11,8 @@ pub mod Places
 pub mod Inside
 pub mod LabelPlace
 pub mod Sound
+pub mod Usable
+pub mod Fits
 pub mod ByRows
 pub mod Meant
 pub mod Walk

@@ -12,8 +12,8 @@ use Rattle.sheet.specs.declared.Record.the-variants.{Numbers}
 use Rattle.sheet.specs.declared.Due.the-variants as due
 use Rattle.sheet.specs.Words as words
 use Rattle.sheet.specs.Numbers.{word}
-use Rattle.sheet.specs.Records.{sized}
-use Rattle.sheet.specs.Table.{Row, row, opening, arrowLimits, arrowMore, arrowSays, rows, says}
+use Rattle.sheet.specs.Records.{arrowLimits, sized}
+use Rattle.sheet.specs.Table.{Row, row, opening, arrowMore, arrowSays, rows, says}
 
 -- the sizes of the `sheet` line
 pub record Size : Type 0 where

@@ -36,10 +36,26 @@ plain (x ∷ xs) = leb 32 x && leb x 126 && plain xs
 abbrev pub labelGood : List ℕ → Bool
 labelGood l = sized LABEL-BYTES (length l) && plain l
 
+-- the limits of the numbers of each kind of line
+abbrev pub sheetLimits : List ℕ
+sheetLimits = LARGEST-NUMBER ∷ LARGEST-NUMBER ∷ LARGEST-NUMBER ∷ LARGEST-NUMBER ∷ []
+
+abbrev pub actLimits : List ℕ
+actLimits = LARGEST-ID ∷ []
+
+abbrev pub goLimits : List ℕ
+goLimits = LARGEST-NUMBER ∷ LARGEST-NUMBER ∷ LARGEST-NUMBER ∷ LARGEST-NUMBER ∷ []
+
+abbrev pub arrowLimits : List ℕ
+arrowLimits = LARGEST-ID ∷ LARGEST-ID ∷ []
+
+abbrev pub viewLimits : List ℕ
+viewLimits = LARGEST-ID ∷ LARGEST-NUMBER ∷ LARGEST-NUMBER ∷ []
+
 -- `sheet`, states, actions, boxes, start: sizes, then the start
 unfoldable pub sheetLine : List ℕ → Record
 sheetLine l =
-    onRecord (recordOf words.sheet (LARGEST-NUMBER ∷ LARGEST-NUMBER ∷ LARGEST-NUMBER ∷ LARGEST-NUMBER ∷ []) l)
+    onRecord (recordOf words.sheet sheetLimits l)
     (λ states actions boxes start.
     cond (sized STATES states && sized ACTIONS actions && sized BOXES boxes)
     (cond (ltb start states) (Numbers states actions boxes start) (Not 6))
@@ -64,14 +80,14 @@ boxLine ids l = cond (same (word l) words.box) (boxFields ids (rest l)) (Not 2)
 -- `act`, box id: the box's position
 unfoldable pub actLine : List ℕ → List ℕ → Record
 actLine ids l =
-    onRecord (recordOf words.act (LARGEST-ID ∷ []) l)
+    onRecord (recordOf words.act actLimits l)
     (λ id _ _ _. cond (known ids id) (Numbers (position ids id) 0 0 0) (Not 8))
     Not
 
 -- `go`, state, action, next, output: the state and the action that are due, and a next state of the model
 unfoldable pub goLine : ℕ → ℕ → ℕ → List ℕ → Record
 goLine states state action l =
-    onRecord (recordOf words.go (LARGEST-NUMBER ∷ LARGEST-NUMBER ∷ LARGEST-NUMBER ∷ LARGEST-NUMBER ∷ []) l)
+    onRecord (recordOf words.go goLimits l)
     (λ s a next output.
     cond (eqb s state && eqb a action && ltb next states) (Numbers s a next output) (Not 6))
     Not
@@ -79,7 +95,7 @@ goLine states state action l =
 -- a word, id, id: the boxes' positions
 unfoldable pub arrowLine : List ℕ → List ℕ → List ℕ → Record
 arrowLine w ids l =
-    onRecord (recordOf w (LARGEST-ID ∷ LARGEST-ID ∷ []) l)
+    onRecord (recordOf w arrowLimits l)
     (λ from to _ _.
     cond (known ids from && known ids to) (Numbers (position ids from) (position ids to) 0 0) (Not 8))
     Not
@@ -101,7 +117,7 @@ onFlow flow.Other f g z o = o
 -- `view`, id, state, class: the id, then the state that is due
 unfoldable pub viewLine : ℕ → ℕ → List ℕ → Record
 viewLine id state l =
-    onRecord (recordOf words.view (LARGEST-ID ∷ LARGEST-NUMBER ∷ LARGEST-NUMBER ∷ []) l)
+    onRecord (recordOf words.view viewLimits l)
     (λ i s class _. cond (eqb i id) (cond (eqb s state) (Numbers i s class 0) (Not 6)) (Not 8))
     Not
 

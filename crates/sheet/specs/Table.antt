@@ -4,7 +4,7 @@ use mathlib.Core.List.{List, [], _∷_, _++_}
 use mathlib.Core.Bool.{Bool, true, false, cond, not, _&&_, _||_}
 use lib.ListN.{length, getD, set, replicate}
 use lib.Dec.{ltb, eqb}
-use Rattle.model.specs.Limits.{STATES, ACTIONS, BOXES, LARGEST-ID, LARGEST-NUMBER}
+use Rattle.model.specs.Limits.{STATES, ACTIONS, BOXES, LARGEST-ID}
 use Rattle.text.specs.declared.Number.{Number}
 use Rattle.text.specs.Number.{number, onNumber}
 use Rattle.text.specs.Lines.{same}
@@ -14,7 +14,7 @@ use Rattle.sheet.specs.declared.Due.{Due}
 use Rattle.sheet.specs.declared.Due.the-variants as due
 use Rattle.sheet.specs.Words as words
 use Rattle.sheet.specs.Numbers.{word, rest}
-use Rattle.sheet.specs.Records.{sized, known, position, labelGood}
+use Rattle.sheet.specs.Records.{sheetLimits, actLimits, goLimits, arrowLimits, viewLimits, sized, known, position, labelGood}
 
 -- a row: the number of a refusal, and whether the line gives cause for it
 pub record Row : Type 0 where
@@ -59,22 +59,6 @@ opening w limits l =
     ∷ row 3 (not (eqb (length (rest l)) (length limits)))
     ∷ row 4 (someBad limits (rest l))
     ∷ []
-
--- the limits of each kind of line
-abbrev pub sheetLimits : List ℕ
-sheetLimits = LARGEST-NUMBER ∷ LARGEST-NUMBER ∷ LARGEST-NUMBER ∷ LARGEST-NUMBER ∷ []
-
-abbrev pub actLimits : List ℕ
-actLimits = LARGEST-ID ∷ []
-
-abbrev pub goLimits : List ℕ
-goLimits = LARGEST-NUMBER ∷ LARGEST-NUMBER ∷ LARGEST-NUMBER ∷ LARGEST-NUMBER ∷ []
-
-abbrev pub arrowLimits : List ℕ
-arrowLimits = LARGEST-ID ∷ LARGEST-ID ∷ []
-
-abbrev pub viewLimits : List ℕ
-viewLimits = LARGEST-ID ∷ LARGEST-NUMBER ∷ LARGEST-NUMBER ∷ []
 
 -- `sheet`: 5 for a size, then 6 for the start
 abbrev pub sheetMore : List ℕ → List Row

@@ -4,8 +4,7 @@ mod lines;
 mod phases;
 
 ghost use mathlib.Core.Path.{_≡_};
-ghost use mathlib.Core.Bool.{false};
-ghost use Prim.Native.Nat.{_+_, _-_, _<_};
+ghost use Prim.Native.Nat.{_+_};
 ghost use lib.ListN.{length};
 ghost use Rattle.model.specs.Limits.{NEXT-ENTRIES, OUTPUT-ENTRIES, VIEW-ENTRIES};
 ghost use Rattle.text.specs.Lines.{lines, Ended};
@@ -162,6 +161,7 @@ fn read_lines(text: &[u8], next: &mut [u16], outputs: &mut [u16], views: &mut [u
     requires { ⌜ (length (now next) ≡ NEXT-ENTRIES) × (length (now outputs) ≡ OUTPUT-ENTRIES) × (length (now views) ≡ VIEW-ENTRIES) ⌝ }
     ensures { λ r. ⌜ readingOf (r .answer) (partsOf r (now (next .exit)) (now (outputs .exit)) (now (views .exit))) ≡ sheetLines (steps (now (next .entry)) (now (outputs .entry))) (now (views .entry)) (lines (now (text .entry))) ⌝ }
 {
+    // no id is known yet
     let none = [0u32; 1];
     match phases::take_due(text, 0, Due::Sheet, &none[0..0]) {
         Taken::Stopped(number) => refused(number, 1),

@@ -4,14 +4,12 @@ use super::Flow;
 use super::Record;
 use text::Number;
 ghost use mathlib.Core.Path.{_≡_};
-ghost use mathlib.Core.Bool.{false};
-ghost use Prim.Native.Nat.{_+_, _<_, _≤_};
+ghost use Prim.Native.Nat.{_≤_};
 ghost use lib.ListN.{length};
 ghost use Rattle.model.specs.Limits.{BOXES};
 ghost use Rattle.text.specs.Lines.{fieldsAt};
 ghost use Rattle.sheet.specs.Numbers.{recordOf, numbers};
 ghost use Rattle.sheet.specs.Records.{sized, position, labelGood, plain, sheetLine, boxLine, actLine, goLine, arrowLine, viewLine, boxOf, boxFields, flowLine, lineDue};
-ghost use Rattle.sheet.specs.Phases.{boxes};
 
 // The numbers in the fields from `from` on: as many as there are limits, each up to its own.
 fn numbers_from(line: &[u8], from: usize, limits: &[u32]) -> Record

@@ -11,11 +11,11 @@ use super::Taken;
 use text::Line;
 ghost use mathlib.Core.Path.{_≡_};
 ghost use mathlib.Core.Bool.{false};
-ghost use Prim.Native.Nat.{_+_, _*_, _<_, _≤_};
+ghost use Prim.Native.Nat.{_+_, _<_, _≤_};
 ghost use lib.ListN.{length, drop, replicate};
 ghost use Rattle.model.specs.Limits.{STATES, ACTIONS, BOXES, ARROWS, NEXT-ENTRIES, OUTPUT-ENTRIES, VIEW-ENTRIES};
 ghost use Rattle.text.specs.Lines.{lines, Ended};
-ghost use Rattle.sheet.specs.Records.{position, lineDue};
+ghost use Rattle.sheet.specs.Records.{lineDue};
 ghost use Rattle.sheet.specs.Phases.{takenBy, told, Few, boxes, acts, steps, goes, selves, flows, views as viewsOf};
 ghost use Rattle.sheet.specs.Reading.{drawing, drawnAs, parts, partsAs};
 

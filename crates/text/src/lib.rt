@@ -1,6 +1,5 @@
 // Bytes: decimal numbers both ways, lines and fields, and writing into a lent tail. Every function takes anything.
 ghost use mathlib.Core.Path.{_≡_};
-ghost use Prim.Native.Nat.{_+_};
 ghost use Rattle.text.specs.Number.{digit, decimal};
 ghost use Rattle.text.specs.Lines.{same, endOf, lineFrom, numberFrom, moreFrom};
 ghost use Rattle.text.specs.Written.{Written, fitting};

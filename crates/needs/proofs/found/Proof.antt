@@ -1,7 +1,7 @@
 -- `needs::found` meets its contract.
 -- Assumes nothing.
 use borrow.Author.Needs.{needs}
-use mathlib.Core.Path.{_≡_, sym, subst}
+use mathlib.Core.Path.{sym, subst}
 use Rattle.model.specs.Denoted.{machineOf}
 use Rattle.reach.specs.Set.{flagAt}
 use Rattle.needs.specs.Rounds.{Known}

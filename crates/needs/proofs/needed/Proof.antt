@@ -1,7 +1,7 @@
 -- `needs::needed` meets its contract.
 -- Assumes nothing.
 use borrow.Author.Needs.{needs}
-use mathlib.Core.Path.{_≡_, sym, _∙_, subst}
+use mathlib.Core.Path.{sym, _∙_}
 use Rattle.model.proofs.Good.{table-good}
 use Rattle.reach.proofs.Told.{told-found, told-refused, found-fits, refused-breaks}
 use Rattle.needs.proofs.Answering.{lengths-outputs, lengths-list, lengths-next, lengths-all, cleared, known-of, needed-lengths, list-lengths, needed-rules, list-rules, needed-found, list-found}

@@ -1,7 +1,7 @@
 -- `needs::refine` meets its contract. The loop's invariant: each round so far split something, and the classes are those that it left.
 -- Assumes nothing.
 use native.Mathlib.Omega.{arith}
-use mathlib.Core.Path.{_≡_, sym, _∙_}
+use mathlib.Core.Path.{sym, _∙_}
 use Prim.Native.Nat.{_-_}
 use Rattle.needs.proofs.Agreeing.{led-below}
 use Rattle.needs.proofs.Refining.{steps, Refining, refining-first, refining-most, refining-more, refining-last}

@@ -2,7 +2,7 @@
 -- Assumes nothing.
 use native.Mathlib.Omega.{arith}
 use mathlib.Core.Path.{_≡_, refl, sym, _∙_}
-use Prim.Native.Nat.{ℕ, _≤_, _-_}
+use Prim.Native.Nat.{_≤_, _-_}
 use Rattle.needs.specs.Again.{Befores}
 use Rattle.needs.proofs.Refining.{steps}
 use Rattle.needs.proofs.Sorting.{Sorting, sorting-none, box-small, owners-in, sorting-more, sorting-silent, sorting-all}

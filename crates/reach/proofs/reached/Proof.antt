@@ -1,7 +1,7 @@
 -- `reach::reached` meets its contract.
 -- Assumes nothing.
 use borrow.Author.Needs.{needs}
-use mathlib.Core.Path.{_≡_, sym, _∙_}
+use mathlib.Core.Path.{sym, _∙_}
 use Rattle.model.proofs.Good.{table-good}
 use Rattle.reach.proofs.Answered.{outcome-length, outcome-rules, outcome-found, flags-length, flags-rules, flags-found}
 use Rattle.reach.proofs.reached.Statement.{statement}

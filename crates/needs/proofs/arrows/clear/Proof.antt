@@ -1,9 +1,9 @@
 -- `needs::arrows::clear` meets its contract. The loop's invariant: the entries passed are zero.
 -- Assumes nothing.
 use native.Mathlib.Omega.{arith}
-use mathlib.Core.Path.{_≡_, refl, sym, _∙_, ap, subst}
-use mathlib.Core.List.{[], _++_, append-nil}
-use Prim.Native.Nat.{ℕ, _≤_, _-_}
+use mathlib.Core.Path.{_≡_, refl}
+use mathlib.Core.List.{_++_}
+use Prim.Native.Nat.{_≤_, _-_}
 use borrow.Author.Fill.{fill-none}
 use lib.ListN.{length, replicate, drop}
 use Rattle.needs.proofs.Listing.{filled-long, filled-more, filled-all}

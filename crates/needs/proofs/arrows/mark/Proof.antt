@@ -1,8 +1,7 @@
 -- `needs::arrows::mark` meets its contract. The loop's invariant: the boxes whose actions move a state passed are marked.
 -- Assumes nothing.
 use native.Mathlib.Omega.{arith}
-use mathlib.Core.Path.{_≡_, sym, _∙_, subst}
-use Prim.Native.Nat.{ℕ, _≤_, _<_, _-_}
+use Prim.Native.Nat.{_≤_, _-_}
 use Rattle.reach.specs.Set.{flagAt}
 use Rattle.needs.specs.Tables.{stepIn, entry}
 use Rattle.needs.proofs.Marking.{SourcesTo, sources-none, sources-skip, sources-more, sources-all}

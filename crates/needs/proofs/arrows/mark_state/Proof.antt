@@ -2,8 +2,7 @@
 -- Assumes nothing.
 use borrow.Author.Needs.{needs}
 use native.Mathlib.Omega.{arith}
-use mathlib.Core.Path.{_≡_, sym, _∙_, subst}
-use Prim.Native.Nat.{ℕ, _≤_, _<_, _-_}
+use Prim.Native.Nat.{_≤_, _<_, _-_}
 use Rattle.needs.specs.Tables.{stepIn, entry}
 use Rattle.needs.proofs.Marking.{MovedTo, moved-none, moved-keep, moved-put, moved-all}
 use Rattle.needs.proofs.arrows.mark_state.Statement.{statement}

@@ -2,7 +2,6 @@
 -- Assumes nothing.
 use borrow.Author.Needs.{needs}
 use native.Mathlib.Omega.{arith}
-use mathlib.Core.Path.{_≡_, sym, _∙_, ap}
 use lib.ListN.{length-set}
 use Rattle.needs.proofs.arrows.put.Statement.{statement}
 use Rattle.needs.proofs.arrows.put.Tie as tie

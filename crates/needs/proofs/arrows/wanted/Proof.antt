@@ -3,7 +3,6 @@
 use borrow.Author.Needs.{needs}
 use native.Mathlib.Omega.{arith}
 use borrow.Author.Tests.{eq-eqb, ne-eqb}
-use mathlib.Core.Path.{_≡_, refl}
 use Rattle.laws.specs.Choice.{both}
 use Rattle.needs.specs.Marks.{wantedIn}
 use Rattle.needs.proofs.arrows.wanted.Statement.{statement}

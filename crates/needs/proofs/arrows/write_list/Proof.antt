@@ -1,7 +1,7 @@
 -- `needs::arrows::write_list` meets its contract. The loop's invariant: the arrows from the boxes passed stand on the list.
 -- Assumes nothing.
 use native.Mathlib.Omega.{arith}
-use mathlib.Core.Path.{_≡_, sym, _∙_, ap, subst}
+use mathlib.Core.Path.{sym, _∙_, ap}
 use Prim.Native.Nat.{ℕ, _≤_, _-_}
 use lib.ListN.{length, length-replicate}
 use Rattle.noninterference.specs.Rounds.{arrowsUpto}

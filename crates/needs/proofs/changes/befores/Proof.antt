@@ -2,7 +2,7 @@
 -- Assumes nothing.
 use borrow.Author.Needs.{needs}
 use native.Mathlib.Omega.{arith}
-use Prim.Native.Nat.{ℕ, _≤_, _-_}
+use Prim.Native.Nat.{_≤_, _-_}
 use lib.ListN.{length-replicate}
 use mathlib.Core.Bool.{Bool, false}
 use Rattle.needs.proofs.Looking.{BeforesTo, befores-none, befores-more, befores-row, befores-all}

@@ -2,7 +2,7 @@
 -- Assumes nothing.
 use borrow.Author.Needs.{needs}
 use native.Mathlib.Omega.{arith}
-use Prim.Native.Nat.{ℕ, _≤_, _-_}
+use Prim.Native.Nat.{_≤_, _-_}
 use Rattle.model.specs.Limits.{STATES}
 use Rattle.needs.proofs.Looking.{MergedTo, merged-none, merged-more, merged-all}
 use Rattle.needs.proofs.changes.merge.Statement.{statement}

@@ -2,7 +2,7 @@
 -- Assumes nothing.
 use native.Mathlib.Omega.{arith}
 use mathlib.Core.Bool.{Bool, false}
-use Prim.Native.Nat.{ℕ, _≤_, _-_}
+use Prim.Native.Nat.{_≤_, _-_}
 use lib.ListN.{length-replicate}
 use Rattle.needs.proofs.Looking.{TouchedTo, touched-none, touched-skip, touched-merge, touched-all}
 use Rattle.needs.proofs.changes.touched.Statement.{statement}

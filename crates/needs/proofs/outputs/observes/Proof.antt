@@ -1,7 +1,7 @@
 -- `needs::outputs::observes` meets its contract. The loop's invariant: no action passed is u's.
 -- Assumes nothing.
 use native.Mathlib.Omega.{arith}
-use mathlib.Core.Path.{_≡_, sym, _∙_, ap}
+use mathlib.Core.Path.{sym, _∙_, ap}
 use mathlib.Core.Bool.{not}
 use Prim.Native.Nat.{ℕ, _≤_, _-_}
 use borrow.Author.Tests.{eq-eqb, ne-eqb}

@@ -1,6 +1,5 @@
 -- `needs::rounds::next_number` meets its contract.
 -- Assumes nothing.
-use borrow.Author.Needs.{needs}
 use native.Mathlib.Omega.{arith}
 use Rattle.needs.proofs.Looking.{lead-next}
 use Rattle.needs.proofs.rounds.next_number.Statement.{statement}

@@ -1,8 +1,8 @@
 -- `needs::rounds::round` meets its contract. The loop's invariant: the class numbers of the states passed stand in d, and those of unmarked ones at their old numbers in lead.
 -- Assumes nothing.
 use native.Mathlib.Omega.{arith}
-use mathlib.Core.Path.{_≡_, refl, sym, _∙_}
-use Prim.Native.Nat.{ℕ, _≤_, _<_, _-_}
+use mathlib.Core.Path.{refl, _∙_}
+use Prim.Native.Nat.{_≤_, _-_}
 use Rattle.reach.specs.Set.{flagAt}
 use Rattle.needs.specs.Tables.{stepIn, entry}
 use Rattle.needs.specs.Classes.{agrees, Led}

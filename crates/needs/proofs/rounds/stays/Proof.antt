@@ -1,7 +1,6 @@
 -- `needs::rounds::stays` meets its contract.
 -- Assumes nothing.
 use borrow.Author.Needs.{needs}
-use mathlib.Core.Path.{_≡_, refl, sym}
 use Rattle.laws.specs.Choice.{brings}
 use Rattle.needs.proofs.rounds.stays.Statement.{statement}
 use Rattle.needs.proofs.rounds.stays.Tie as tie
