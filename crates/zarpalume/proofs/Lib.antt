@@ -1,0 +1,6 @@
+pub mod Writing
+pub mod ViewsLine
+pub mod Bounds
+pub mod Joined
+pub mod Reading
+pub mod Called

@@ -1,0 +1,50 @@
+-- `zarpalume::zero` meets its contract. Assumes nothing.
+use Prim.Native.Nat.{_-_}
+use native.Mathlib.Omega.{arith}
+use borrow.Author.Needs.{needs}
+use Rattle.zarpalume.proofs.Writing.{Zeroing, zeroing-none, zeroing-more, zeroing-length, zeroing-all}
+use Rattle.zarpalume.proofs.zero.Statement.{statement}
+use Rattle.zarpalume.proofs.zero.Tie as tie
+use Rattle.zarpalume.proofs.zero.Reads as reads
+use Rattle.zarpalume.proofs.zero.Lts as lts
+
+abbrev Inv-bytes : tie.InvT-bytes
+Inv-bytes bytes₀ i₀ i-end bytes i = Zeroing bytes₀ i bytes
+
+abbrev μ-bytes : tie.MeasureT-bytes
+μ-bytes bytes₀ i₀ i-end bytes i = i-end - i
+
+bytes-holds : tie.Need-bytes-holds Inv-bytes μ-bytes
+bytes-holds c = zeroing-none _
+
+slice-write-bytes : tie.Need-slice-write-bytes Inv-bytes μ-bytes
+slice-write-bytes c = let h = zeroing-length _ _ _ (c .before .bytes .inv) in omega arith
+
+add-i : tie.Need-add-i Inv-bytes μ-bytes
+add-i c = search needs
+
+bytes-less : tie.Need-bytes-less Inv-bytes μ-bytes
+bytes-less c = search needs
+
+bytes-again : tie.Need-bytes-again Inv-bytes μ-bytes
+bytes-again c = zeroing-more _ _ _ (c .before .bytes .inv) (c .bytes-test .taken)
+
+same-length : tie.Need-same-length Inv-bytes μ-bytes
+same-length c = zeroing-length _ _ _ (c .before .bytes .inv)
+
+returns : tie.Need-returns Inv-bytes μ-bytes
+returns c = zeroing-all _ _ _ (c .before .bytes .inv) (search needs)
+
+pub zero-spec : {M : Type 1} → statement M
+zero-spec =
+    tie.close
+    (tie.spec
+    Inv-bytes
+    μ-bytes
+    bytes-holds
+    slice-write-bytes
+    add-i
+    bytes-less
+    bytes-again
+    same-length
+    returns)
