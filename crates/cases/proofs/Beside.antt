@@ -1,18 +1,17 @@
 -- True statements beside the cases: ordinary step consistency would break P1, and comparing only the next output would lose an arrow.
 -- Assumes nothing.
 use mathlib.Core.Path.{_≡_, refl}
-use mathlib.Core.Bool.{Bool, true, false}
+use mathlib.Core.Bool.{false}
 use mathlib.Core.Logic.{inl}
 use mathlib.Core.Option.{some}
 use Prim.Native.Nat.{ℕ, _<_}
-use lib.Dec.{eqb}
 use borrow.Author.Tests.{eq-eqb}
 use Rattle.laws.specs.Choice.{both, either, without, choose, when, orElse, brings}
 use Rattle.laws.specs.Search.{firstOf}
 use Rattle.laws.specs.Range as range
 use Rattle.laws.proofs.Tests.{without-of, by-test, not-both, both-of}
 use Rattle.laws.proofs.Range.{some-of}
-use Rattle.noninterference.specs.Machine.{Reachable, run}
+use Rattle.noninterference.specs.Machine.{Reachable}
 use Rattle.noninterference.specs.Purge.{plain}
 use Rattle.noninterference.specs.Place as places
 use Rattle.noninterference.specs.Place.{FirstBroken, OfStep}
@@ -22,12 +21,12 @@ use Rattle.noninterference.specs.Needed.{Needed}
 use Rattle.noninterference.specs.Rounds.{alike, seesAlike, neededIn}
 use Rattle.noninterference.proofs.Judged as noninterference
 use Rattle.noninterference.proofs.Rounds.{seen-of}
-use Rattle.register.specs.Tables.{column, byState, byBox, selves, draws}
+use Rattle.register.specs.Tables.{column, byState, byBox}
 use Rattle.views.specs.Judgement.{everyState}
 use Rattle.cases.specs.Cases.{p1, p2}
-use Rattle.cases.specs.Meets.{machine, state, policy, view, at, idAt}
+use Rattle.cases.specs.Meets.{machine, state, policy, view, idAt}
 use Rattle.cases.proofs.Needs.{inside}
-use Rattle.cases.proofs.Cases.{register, register-reach, cases-hold}
+use Rattle.cases.proofs.Cases.{register, cases-sound, cases-hold}
 
 -- ---- ordinary step consistency at P1: 40, 2, 0, 1
 ordinary : firstStep plain (machine p1) everyState (view p1) ≡ some (places.step 3 2 0 1)
@@ -45,7 +44,7 @@ at-once = refl
 pub unseen-at-once : (s a : ℕ) → Reachable (machine p2) s → a < 4 → machine p2 .owner a ≡ 0 → Seen (machine p2) 3 s (machine p2 .step s a)
 unfolding neededIn alike
 unseen-at-once s a h la e =
-    let w = register-reach in
+    let w = cases-sound .1 .0 .1 in
     seen-of (machine p2) 3 s (machine p2 .step s a)
     (by-test (alike (machine p2) 3 0 s (machine p2 .step s a)) (λ q. q)
     (λ q. not-both

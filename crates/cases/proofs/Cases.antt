@@ -1,11 +1,10 @@
 -- The twelve cases hold: one computed test over the table, and the law for each row.
 -- Assumes nothing.
 use mathlib.Core.Path.{_≡_, refl}
-use mathlib.Core.Bool.{Bool, true, false, not, cond}
+use mathlib.Core.Bool.{Bool, true, false}
 use mathlib.Core.List.{List, [], _∷_}
 use mathlib.Core.Option.{Option, none, some}
 use Prim.Native.Nat.{ℕ}
-use lib.Dec.{eqb}
 use Rattle.laws.specs.Choice.{both, either, brings, without, choose, when, orElse}
 use Rattle.laws.specs.Search.{firstOf}
 use Rattle.laws.specs.Range as range
@@ -20,7 +19,7 @@ use Rattle.model.specs.Refused.{sized, sizesFit, ownersFit, machineFits, nextFi
 use Rattle.register.specs.Tables.{column, byState, byBox, selves, draws}
 use Rattle.purge.specs.Purged.{namesActions, asked, keptOf}
 use Rattle.needs.specs.Listed.{flat}
-use Rattle.cases.specs.Cases.{Case, cases, p2}
+use Rattle.cases.specs.Cases.{Case, cases}
 use Rattle.cases.specs.Meets.{Claimed, Meets, AllMeet, machine}
 use Rattle.cases.proofs.Same.{sameList}
 use Rattle.cases.proofs.Computed.{good, judgedRight, judged-right, purgedRight, purged-right}
@@ -62,7 +61,7 @@ meets c k h =
     }
 
 -- ---- a run to each reachable state, and the depths: of the register machine, with X's output u + v, and of the small models
-abbrev registerWays : List (Option (List ℕ))
+abbrev pub registerWays : List (Option (List ℕ))
 registerWays =
     some [] ∷ some (0 ∷ []) ∷ some (0 ∷ 2 ∷ []) ∷ some (1 ∷ []) ∷ some (1 ∷ 2 ∷ []) ∷ some (0 ∷ 1 ∷ []) ∷ some (0 ∷ 2 ∷ 1 ∷ [])
     ∷ some (1 ∷ 2 ∷ 0 ∷ []) ∷ some (0 ∷ 1 ∷ 2 ∷ []) ∷ []
@@ -70,16 +69,16 @@ registerWays =
 abbrev pub register : Certificate
 register = record { ways = registerWays; depths = 0 ∷ 0 ∷ 0 ∷ 1 ∷ [] }
 
-abbrev direct : Certificate
+abbrev pub direct : Certificate
 direct = record { ways = registerWays; depths = 0 ∷ 0 ∷ 0 ∷ 0 ∷ [] }
 
-abbrev single : List ℕ → Certificate
+abbrev pub single : List ℕ → Certificate
 single depths = record { ways = some [] ∷ []; depths = depths }
 
-abbrev chain : Certificate
+abbrev pub chain : Certificate
 chain = record { ways = some [] ∷ some (0 ∷ []) ∷ some (0 ∷ 1 ∷ []) ∷ some (0 ∷ 1 ∷ 1 ∷ []) ∷ []; depths = 0 ∷ 2 ∷ [] }
 
-abbrev certificates : List Certificate
+abbrev pub certificates : List Certificate
 certificates =
     register ∷ register ∷ register ∷ direct ∷ register ∷ register ∷ register ∷ register ∷ register
     ∷ single (0 ∷ []) ∷ single (0 ∷ 0 ∷ []) ∷ chain ∷ []
@@ -102,10 +101,27 @@ computed = refl
 pub cases-hold : AllMeet cases
 cases-hold = all-meet cases certificates computed
 
--- the states that the runs of the certificate lead to are those that are reachable
-pub register-reach : Reach (machine p2) (inside register)
-unfolding allHold holds
-register-reach =
-    let a = both-true _ _ (both-true _ _ (both-true _ _ computed .1) .0) in
+-- ---- no case is refused, and the runs of its certificate lead to the states that are reachable
+abbrev pub Sound : Case → Certificate → Type 0
+Sound c k = (good c ≡ true) × Reach (machine c) (inside k)
+
+abbrev pub AllSound : List Case → List Certificate → Type 0
+AllSound [] ks = Unit {0}
+AllSound (c ∷ cs) [] = ⊥
+AllSound (c ∷ cs) (k ∷ ks) = Sound c k × AllSound cs ks
+
+is-sound : (c : Case) (k : Certificate) → holds c k ≡ true → Sound c k
+unfolding holds
+is-sound c k h =
+    let a = both-true _ _ h in
     let b = both-true _ _ (a .1) in
-    reaches p2 register (a .0) (b .0) (both-true _ _ (b .1) .0)
+    (a .0, reaches c k (a .0) (b .0) (both-true _ _ (b .1) .0))
+
+all-sound : (cs : List Case) (ks : List Certificate) → allHold cs ks ≡ true → AllSound cs ks
+unfolding allHold
+all-sound [] ks h = tt
+all-sound (c ∷ cs) [] h = not-both h refl
+all-sound (c ∷ cs) (k ∷ ks) h = let b = both-true _ _ h in (is-sound c k (b .0), all-sound cs ks (b .1))
+
+pub cases-sound : AllSound cases certificates
+cases-sound = all-sound cases certificates computed

@@ -1,31 +1,28 @@
 -- One test of a case that computes, and the law that turns it into the case's statement.
 -- Assumes nothing.
-use mathlib.Core.Path.{_≡_, refl, sym, _∙_, ap, subst}
+use mathlib.Core.Path.{_≡_, refl, _∙_, ap}
 use mathlib.Core.Logic.{_↔_}
-use mathlib.Core.Bool.{Bool, true, false}
-use mathlib.Core.List.{List, [], _∷_}
+use mathlib.Core.Bool.{Bool, true}
 use mathlib.Core.Option.{Option, none, some}
 use Prim.Native.Nat.{ℕ, _<_}
 use lib.Dec.{eqb, leb}
-use lib.ListN.{length, getD}
+use lib.ListN.{length}
 use borrow.Author.Tests.{eqb-true, eq-eqb}
 use Rattle.laws.specs.Choice.{both, choose}
 use Rattle.laws.proofs.Tests.{both-true, both-of}
 use Rattle.noninterference.specs.Purge.{intransitive, purge, keeps}
 use Rattle.noninterference.specs.Place as places
 use Rattle.noninterference.specs.Place.{Place, OfAny, FirstBroken}
-use Rattle.noninterference.specs.Conditions.{Conditions, ByView}
 use Rattle.noninterference.specs.Judged as searches
 use Rattle.noninterference.proofs.Judged as noninterference
 use Rattle.model.specs.Limits.{NEXT-ENTRIES, OUTPUT-ENTRIES, VIEW-ENTRIES}
 use Rattle.model.specs.Refused.{modelTableFits, modelFits}
 use Rattle.model.specs.Denoted.{ownerAt}
 use Rattle.views.specs.Judgement.{judgementOf, firstBroken, answer, everyState, lengthsFit}
-use Rattle.views.specs.declared.Judgement.the-variants.{Accepted, Output, Respect, Step}
 use Rattle.purge.specs.Purged.{purgedOf, written, asked, keptOf}
 use Rattle.purge.specs.declared.Kind.the-variants.{Intransitive}
 use Rattle.cases.specs.Cases.{Case, Views, accepted, output, respect, step, Purge}
-use Rattle.cases.specs.Meets.{next, outputs, views, machine, state, policy, view, idAt, at, Judged, Purged, Claimed}
+use Rattle.cases.specs.Meets.{next, outputs, views, machine, state, policy, view, idAt, at, Judged, Purged}
 use Rattle.cases.proofs.Same.{sameList, same-list, ranked, same-rank, full-length}
 
 -- the tables are not too long, and the model is not refused

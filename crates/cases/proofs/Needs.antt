@@ -1,6 +1,6 @@
 -- The needed arrows, the depths and the reachable states of a case, from tests that are handed a run to each reachable state.
 -- Assumes nothing.
-use mathlib.Core.Path.{_≡_, refl, sym, _∙_, ap, subst}
+use mathlib.Core.Path.{_≡_, refl, _∙_, ap, subst}
 use mathlib.Core.Bool.{Bool, true, false, not}
 use mathlib.Core.List.{List, [], _∷_}
 use mathlib.Core.Option.{Option, none}
@@ -15,23 +15,22 @@ use Rattle.laws.specs.Lists.{All}
 use Rattle.laws.proofs.Tests.{both-true, both-of, brings-at, by-test, not-both}
 use Rattle.laws.proofs.Range.{every-at, tabulate-same}
 use Rattle.noninterference.specs.Machine as noninterference
-use Rattle.noninterference.specs.Machine.{Run, run, Reachable, Closed}
+use Rattle.noninterference.specs.Machine.{run, Reachable, Closed}
 use Rattle.noninterference.specs.Needed.{Arrow, arrow, NeededList}
-use Rattle.noninterference.specs.Depth.{Depth, Stable}
+use Rattle.noninterference.specs.Depth.{Depth}
 use Rattle.noninterference.specs.Reached.{Reach, reached}
 use Rattle.noninterference.specs.Rounds.{stable, neededIn, arrowsUpto, neededList, depthOf}
 use Rattle.noninterference.proofs.Reached.{reach, reach-by, reach-count}
 use Rattle.noninterference.proofs.Rounds.{stable-says, depth-is}
 use Rattle.noninterference.proofs.NeededList.{list-computed, list-unique, needed-list}
-use Rattle.model.specs.Limits.{BOXES, NEXT-ENTRIES, OUTPUT-ENTRIES, LIST-ENTRIES}
+use Rattle.model.specs.Limits.{BOXES, LIST-ENTRIES}
 use Rattle.model.specs.Refused.{modelTableFits, machineTableFits}
-use Rattle.model.specs.Good.{GoodTable}
 use Rattle.model.proofs.Good.{table-good}
 use Rattle.model.proofs.Denoted.{closed}
 use Rattle.views.specs.Judgement as views
 use Rattle.register.specs.Tables.{full}
 use Rattle.needs.specs.Listed.{flat, padded}
-use Rattle.needs.specs.Answered.{neededOf, listOf, lengthsFit, told, foundIn, depthsOf}
+use Rattle.needs.specs.Answered.{neededOf, listOf, lengthsFit, told, foundIn}
 use Rattle.cases.specs.Cases.{Case}
 use Rattle.cases.specs.Meets.{next, outputs, machine, state, idAt, at, arrowsOf, IdsKnown, NeedsThese, DepthsAre, ReachIs}
 use Rattle.cases.proofs.Same.{sameList, same-list}

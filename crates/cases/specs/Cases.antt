@@ -1,5 +1,4 @@
 -- The cases P1 to P12, one table: a model with its tables, and what is claimed of it. What a case does not claim is `none`.
-use mathlib.Core.Bool.{Bool}
 use mathlib.Core.List.{List, [], _∷_}
 use mathlib.Core.Option.{Option, none, some}
 use Prim.Native.Nat.{ℕ}

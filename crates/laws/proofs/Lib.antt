@@ -8,3 +8,4 @@ pub mod Cells
 pub mod Filled
 pub mod Copied
 pub mod Loops
+pub mod Tables

@@ -5,11 +5,11 @@ use mathlib.Core.Bool.{Bool, true, false, not}
 use Prim.Native.Nat.{ℕ, _<_, _≤_}
 use native.Mathlib.Omega.{arith}
 use lib.Dec.{eqb, ltb, leb}
-use borrow.Author.Tests.{lt-ltb, le-ltb, le-leb, lt-leb, eq-eqb, ne-eqb}
+use borrow.Author.Tests.{not-true, lt-ltb, le-ltb, le-leb, lt-leb, eq-eqb, ne-eqb}
 use Rattle.laws.specs.Choice.{both, brings}
-use Rattle.laws.specs.Range.{every, Held}
+use Rattle.laws.specs.Range.{every, some, Held}
 use Rattle.laws.proofs.Tests.{told, both-of, both-no}
-use Rattle.laws.proofs.Range.{every-held, every-not, sweep-every}
+use Rattle.laws.proofs.Range.{every-held, every-not, some-of, some-none, sweep-every}
 
 -- the loop has come to the end
 pub every-yes : (n : ℕ) {i : ℕ} (p : ℕ → Bool) → n ≤ i → Held i p → true ≡ every n p
@@ -18,6 +18,13 @@ every-yes n p l h = sym (every-held n p l h)
 -- the loop has met a number that fails
 pub every-no : (n : ℕ) (p : ℕ → Bool) (i : ℕ) → i < n → p i ≡ false → false ≡ every n p
 every-no n p i l e = sym (every-not n p i l e)
+
+-- a loop that looks for a number has come to one, or to the end
+pub some-yes : (n : ℕ) (p : ℕ → Bool) (i : ℕ) → i < n → p i ≡ true → true ≡ some n p
+some-yes n p i l e = sym (some-of n p i l e)
+
+pub some-no : (n : ℕ) {i : ℕ} (p : ℕ → Bool) → n ≤ i → Held i (λ k. not (p k)) → false ≡ some n p
+some-no n p l h = sym (some-none n p (λ k q. not-true _ (h .each k (omega arith))))
 
 -- what the code compared, r, was read at x
 pub read-lt : {r : ℕ} (x n : ℕ) → r ≡ x → r < n → ltb x n ≡ true

@@ -3,9 +3,9 @@
 --     searched-when     a search that a test guards
 --     searched-flag     the innermost: an answer where a test holds
 -- Assumes nothing.
-use mathlib.Core.Path.{_≡_, refl, sym, subst}
+use mathlib.Core.Path.{_≡_, subst}
 use mathlib.Core.Logic.{⊎-elim}
-use mathlib.Core.Bool.{Bool, true, false}
+use mathlib.Core.Bool.{Bool, true}
 use mathlib.Core.List.{List, [], _∷_}
 use mathlib.Core.Option.{Option, none, some}
 use Prim.Native.Nat.{ℕ, _<_}
@@ -13,7 +13,7 @@ use Rattle.laws.specs.Choice.{when}
 use Rattle.laws.specs.Search.{firstOf, First}
 use Rattle.laws.specs.Order.{Earlier}
 use Rattle.laws.proofs.Tests.{not-both}
-use Rattle.laws.proofs.Search.{no-answer, when-none, when-some, when-clear, firstOf-clear, firstOf-at}
+use Rattle.laws.proofs.Search.{when-none, when-some, when-clear, firstOf-clear, firstOf-at}
 
 -- x is answered at the first bad place
 pub record Found {A : Type 0} (B : List ℕ → Type 0) (at : List ℕ → A) (x : A) : Type 0 where

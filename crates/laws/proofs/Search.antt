@@ -3,14 +3,16 @@
 --     firstOf-none, firstOf-hit    a loop's end: all passed, or an answer at k after all before it passed
 --     firstOf-clear, firstOf-at    the same read off the search
 -- Assumes nothing.
-use mathlib.Core.Path.{_≡_, refl, subst, sym, _∙_, ap}
+use mathlib.Core.Path.{_≡_, refl, subst, sym, _∙_}
 use mathlib.Core.Bool.{Bool, true, false}
 use mathlib.Core.Option.{Option, some, none}
 use mathlib.Core.Logic.{⊎-elim, _⊎_, inl, inr}
 use Prim.Native.Nat.{ℕ, zero, suc, _+_, _<_, _≤_}
 use native.Mathlib.Nat.{le-refl, le-of-suc-le-suc, not-suc-le-zero, eq-or-lt-of-le}
 use native.Mathlib.Omega.{arith}
+use lib.Dec.{ltb}
 use borrow.Author.Count.{below-more}
+use borrow.Author.Tests.{le-ltb, lt-ltb}
 use Rattle.laws.specs.Choice.{orElse, when}
 use Rattle.laws.specs.Search.{firstOf, Passed, First}
 use Rattle.laws.proofs.Tests.{not-both}
@@ -108,3 +110,14 @@ firstOf-empty n f h = firstOf-none n {i = n} f (le-refl n) (record { clear = h }
 
 -- what `search` is handed at a loop's needs
 pub ruleset sweep = (passed-none, passed-more, firstOf-none, arith)
+
+-- a place that counts
+pub when-hit : {A : Type 0} {b : Bool} (x : Option A) (v : A) → b ≡ true → x ≡ some v → when b x ≡ some v
+when-hit x v e q = when-yes x e ∙ q
+
+-- a pair s < t is looked at, and no other
+pub pair-hit : {A : Type 0} (s t : ℕ) (x : Option A) (v : A) → s < t → x ≡ some v → when true (when (ltb s t) x) ≡ some v
+pair-hit s t x v l e = when-hit _ v refl (when-hit x v (lt-ltb s t l) e)
+
+pub pairs-passed : {A : Type 0} (f : ℕ → Option A) (s : ℕ) → Passed (s + 1) (λ t. when true (when (ltb s t) (f t)))
+pairs-passed f s = record { clear = λ k l. when-rest true (when-no (f k) (le-ltb s k (omega arith))) }

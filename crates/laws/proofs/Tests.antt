@@ -1,9 +1,8 @@
 -- Cases on a test, and what joined tests say.
 -- Assumes nothing.
-use mathlib.Core.Path.{_≡_, refl, sym, _∙_, ap, subst}
+use mathlib.Core.Path.{_≡_, refl, sym, _∙_, subst}
 use mathlib.Core.Logic.{_⊎_, inl, inr}
-use mathlib.Core.Bool.{Bool, true, false}
-use Prim.Native.Nat.{ℕ}
+use mathlib.Core.Bool.{Bool, true, false, not}
 use lib.Dec.{T}
 use borrow.Author.Tests.{lt-ltb, le-ltb, le-leb, lt-leb, eq-eqb, ne-eqb}
 use Rattle.laws.specs.Choice.{both, either, brings, without, choose}
@@ -122,5 +121,26 @@ told b t e q = sym e ∙ q
 
 pub untold : {v : Bool} (b t : Bool) → v ≡ t → b ≡ t → v ≡ b
 untold b t e q = e ∙ sym q
+
+-- what a flag of the code says of joined tests
+pub not-yes : {b : Bool} → b ≡ true → false ≡ not b
+not-yes e = rw e
+
+pub not-no : {b : Bool} → b ≡ false → true ≡ not b
+not-no e = rw e
+
+pub without-not : {a : Bool} (b : Bool) → a ≡ false → false ≡ without a b
+unfolding without
+without-not b e = rw e
+
+pub without-met : (a : Bool) {b : Bool} → b ≡ true → false ≡ without a b
+unfolding without
+without-met true e = rw e
+without-met false e = refl
+
+pub without-on : {a : Bool} (b : Bool) → a ≡ true → not b ≡ without a b
+unfolding without
+without-on true e = rw e
+without-on false e = rw e
 
 pub ruleset chain = (chain-no, chain-on, lt-ltb, le-ltb, le-leb, lt-leb, eq-eqb, ne-eqb)

@@ -1,9 +1,9 @@
 -- When values and tables that are handed in are refused: 10 for a table of another length, 12 for what breaks the rules.
-use mathlib.Core.Bool.{Bool, true, false, not}
+use mathlib.Core.Bool.{Bool, not}
 use mathlib.Core.List.{List}
-use Prim.Native.Nat.{ℕ, _+_, _*_}
+use Prim.Native.Nat.{ℕ}
 use lib.Dec.{eqb, ltb, leb}
-use lib.ListN.{length, getD}
+use lib.ListN.{getD}
 use Rattle.laws.specs.Choice.{both, brings}
 use Rattle.laws.specs.Range.{every}
 use Rattle.model.specs.Limits.{STATES, ACTIONS, BOXES, LARGEST-ID}

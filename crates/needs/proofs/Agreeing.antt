@@ -10,16 +10,16 @@ use native.Mathlib.Nat.{not-suc-le-zero, eq-or-lt-of-le}
 use borrow.Author.Count.{below-more}
 use borrow.Author.Tests.{eq-eqb, ne-eqb, eqb-true}
 use lib.Dec.{eqb}
-use lib.ListN.{length, getD, set, length-set}
+use lib.ListN.{length, set, length-set}
 use lib.Seq.{getD-set-same, getD-set-other}
-use Rattle.laws.specs.Choice.{both, brings}
-use Rattle.laws.specs.Range.{first, Held}
-use Rattle.laws.proofs.Tests.{by-test, not-both, both-of, both-true, both-no, brings-of, brings-at}
+use Rattle.laws.specs.Choice.{both}
+use Rattle.laws.specs.Range.{Held}
+use Rattle.laws.proofs.Tests.{by-test, not-both, both-of, both-true, both-no}
 use Rattle.laws.proofs.Range.{every-at, every-of, every-held, every-not, held-more, first-at, first-none}
 use Rattle.laws.proofs.Cells.{cell, row}
 use Rattle.model.specs.Limits.{STATES, ACTIONS}
-use Rattle.needs.specs.Tables.{entry, seenIn, Steps}
-use Rattle.needs.specs.Classes.{lowest, agrees, Below, Led}
+use Rattle.needs.specs.Tables.{entry, Steps}
+use Rattle.needs.specs.Classes.{lowest, agrees, Missed, Below, Led}
 use Rattle.needs.proofs.Classes.{lowest-le, lowest-holds}
 
 -- ---- the cells of the tables
@@ -69,10 +69,7 @@ module _ (step : ℕ → ℕ → ℕ) (actions : ℕ) (c : ℕ → ℕ) where
   agrees-joined r t s p q =
       agrees-of r s (agrees-now r t p ∙ agrees-now t s q) (λ a l. agrees-after r t a l p ∙ agrees-after t s a l q)
 
--- ---- the search for the first of a class: none before t is alike
-pub record Missed (inside : ℕ → Bool) (E : ℕ → ℕ → Bool) (s t : ℕ) : Type 0 where
-  pub none : (j : ℕ) → j < t → both (inside j) (E j s) ≡ false
-
+-- ---- the search for the first of a class
 module _ (inside : ℕ → Bool) (E : ℕ → ℕ → Bool) (s : ℕ) where
   pub missed-none : Missed inside E s 0
   missed-none = record { none = λ j l. absurd (not-suc-le-zero l) }
@@ -136,28 +133,3 @@ output-cell {actions} l ls la = cell STATES ACTIONS ls (omega arith) la l
 
 pub output-row : {actions s : ℕ} → actions ≤ 32 → s < 128 → s * actions ≤ 4096
 output-row l ls = row STATES ACTIONS ls (omega arith) l
-
--- an action of another box; of this box, the same output; another output
-pub not-mine : {o : ℕ} (b : Bool) {v u : ℕ} → o ≡ v → (o ≡ u → ⊥) → brings (eqb v u) b ≡ true
-unfolding brings
-not-mine b {v} {u} e n = rw (ne-eqb v u (λ q. n (e ∙ q)))
-
-pub seen-same : (b : Bool) {x y v w : ℕ} → x ≡ v → y ≡ w → x ≡ y → brings b (eqb v w) ≡ true
-seen-same b {x} {y} {v} {w} ex ey e = brings-of b (λ _. eq-eqb v w (sym ex ∙ e ∙ ey))
-
-pub seen-other : {o u x y p v w : ℕ} → o ≡ p → o ≡ u → x ≡ v → y ≡ w → (x ≡ y → ⊥) → brings (eqb p u) (eqb v w) ≡ false
-unfolding brings
-seen-other {o} {u} {x} {y} {p} {v} {w} eo eu ex ey n = rw (eq-eqb p u (sym eo ∙ eu), ne-eqb v w (λ q. n (ex ∙ q ∙ sym ey)))
-
-module _ (owners outputs : List ℕ) (actions u : ℕ) where
-  abbrev sameOutput : ℕ → ℕ → ℕ → Bool
-  sameOutput s t a = brings (eqb (getD owners a 0) u) (eqb (getD outputs (s * actions + a) 0) (getD outputs (t * actions + a) 0))
-
-  seen-at : (s t a : ℕ) → seenIn owners outputs actions u s t ≡ true → a < actions → eqb (getD owners a 0) u ≡ true →
-      getD outputs (s * actions + a) 0 ≡ getD outputs (t * actions + a) 0
-  seen-at s t a h l m = eqb-true _ _ (brings-at (eqb (getD owners a 0) u) _ (every-at actions (sameOutput s t) h a l) m)
-
-  pub seen-joined : (r t s : ℕ) → seenIn owners outputs actions u r t ≡ true → seenIn owners outputs actions u t s ≡ true →
-      seenIn owners outputs actions u r s ≡ true
-  seen-joined r t s p q =
-      every-of actions (sameOutput r s) (λ a l. brings-of (eqb (getD owners a 0) u) (λ m. eq-eqb _ _ (seen-at r t a p l m ∙ seen-at t s a q l m)))

@@ -31,7 +31,7 @@ use Rattle.reach.specs.Set.{flagAt, listed, has, size}
 use Rattle.reach.specs.Answered.{flagsOf}
 use Rattle.reach.specs.declared.Set.{Set}
 use Rattle.reach.proofs.Answered.{flags-small, flags-reach}
-use Rattle.reach.proofs.Tables.{tabulated, count-beyond}
+use Rattle.laws.proofs.Tables.{tabulated, count-beyond}
 use Rattle.needs.specs.Marks.{wantedIn, SortedOut}
 use Rattle.needs.specs.Rounds.{Known}
 use Rattle.needs.specs.Listed.{padded, Written}

@@ -11,9 +11,9 @@ use lib.Dec.{eqb}
 use borrow.Author.Count.{below-more}
 use borrow.Author.Tests.{eqb-true, eq-eqb}
 use Rattle.laws.specs.Choice.{both, brings}
-use Rattle.laws.specs.Range.{every, first, count}
+use Rattle.laws.specs.Range.{every, count}
 use Rattle.laws.proofs.Tests.{not-both, agree, both-of, both-true, brings-at, brings-of}
-use Rattle.laws.proofs.Range.{by-order, every-at, every-of, first-le, first-holds, first-least, first-at}
+use Rattle.laws.proofs.Range.{by-order, every-at, every-of, first-le, first-holds, first-least, first-at, every-same}
 use Rattle.laws.proofs.Count.{Equivalent, count-le}
 use Rattle.noninterference.specs.Machine.{Machine}
 use Rattle.noninterference.specs.Rounds.{alike, stable, depthIn}
@@ -22,7 +22,6 @@ use Rattle.noninterference.proofs.Same.{within-equivalence, within-less}
 use Rattle.noninterference.proofs.Rounds.{alike-says, stable-says, fewer-rounds}
 use Rattle.needs.specs.Classes.{Classes, lowest, agrees, unchanged}
 use Rattle.needs.specs.Rounds.{Known, AtRound, Refined}
-use Rattle.needs.proofs.Ranges.{every-same}
 
 -- ---- the first of a class
 module _ (inside : ℕ → Bool) (E : ℕ → ℕ → Bool) where

@@ -33,7 +33,7 @@ use Rattle.model.specs.Good.{GoodTable}
 use Rattle.model.specs.declared.Machine.{Machine}
 use Rattle.model.proofs.Good.{table-good}
 use Rattle.model.proofs.Denoted.{closed, owned}
-use Rattle.reach.proofs.Tables.{tabulate-at, length-tabulate}
+use Rattle.laws.proofs.Tables.{tabulate-at, length-tabulate}
 use Rattle.needs.specs.Listed.{flat, padded}
 use Rattle.needs.specs.Answered.{depthsOf, foundIn, lengthsFit, neededOf, listOf}
 use Rattle.needs.specs.Demand.{Demand}
@@ -41,7 +41,7 @@ use Rattle.needs.proofs.Listing.{flat-length}
 use Rattle.needs.proofs.Answering.{needed-found, list-found}
 
 module _ (M : noninterference.Machine) (c : Closed M (λ s. s < M .states)) (w : Owned M) (most : M .boxes ≤ BOXES) where
-  depth-at : (u : ℕ) → u < M .boxes → getD (depthsOf M) u 0 ≡ depthOf M u
+  pub depth-at : (u : ℕ) → u < M .boxes → getD (depthsOf M) u 0 ≡ depthOf M u
   unfolding choose
   depth-at u l = tabulate-at BOXES _ u 0 (omega arith) ∙ rw (lt-ltb _ _ l)
 

@@ -1,4 +1,3 @@
-pub mod Ranges
 pub mod Classes
 pub mod Agreeing
 pub mod Marking
@@ -8,3 +7,6 @@ pub mod Sorting
 pub mod Answering
 pub mod Demand
 pub mod Looking
+pub mod Starting
+pub mod Owning
+pub mod Moving

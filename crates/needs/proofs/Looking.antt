@@ -16,14 +16,14 @@ use Rattle.laws.specs.Choice.{either}
 use Rattle.laws.proofs.Tests.{not-both, either-false}
 use Rattle.model.specs.Limits.{STATES}
 use Rattle.reach.specs.Set.{flagAt}
-use Rattle.reach.proofs.Tables.{set-true, set-stays}
+use Rattle.laws.proofs.Tables.{set-true, set-stays}
 use Rattle.needs.specs.Tables.{stepIn, entry, Steps}
 use Rattle.needs.specs.Classes.{lowest, agrees, Led}
 use Rattle.needs.specs.Again.{Befores, Merged, Touched, Quiet, LeadAt, Leads}
 use Rattle.needs.proofs.Classes.{lowest-le, lowest-holds, lowest-least, lowest-case}
 use Rattle.needs.proofs.Agreeing.{agrees-now, agrees-after, agrees-of, agrees-joined}
 
-one-of : (a b : ℕ) (t : Bool) → eqb a b ≡ t → (a ≡ b) ⊎ (a ≢ b)
+pub one-of : (a b : ℕ) (t : Bool) → eqb a b ≡ t → (a ≡ b) ⊎ (a ≢ b)
 one-of a b true e = inl (eqb-true a b e)
 one-of a b false e = inr (eqb-false a b e)
 
@@ -64,15 +64,14 @@ module _ (step : ℕ → ℕ → ℕ) (actions : ℕ) (c : ℕ → ℕ) where
 pub quiet-none : {states actions : ℕ} {next c : List ℕ} → states ≤ STATES → Quiet states actions next c (replicate STATES true)
 quiet-none m = record { agree = λ s t ls lt ms mt e. not-both (getD-replicate {A = Bool} STATES s true false (omega arith)) ms }
 
-pub quiet-next : {states actions : ℕ} {next c d keep : List ℕ} {marks : List Bool} (inside : ℕ → Bool) →
-    Led inside (agrees (stepIn actions next) actions (entry c)) d states → Touched states actions next c d keep marks → Quiet states actions next d marks
-quiet-next {states} {actions} {next} {c} {d} {keep} inside dd h = record {
+pub quiet-next : {states actions : ℕ} {next c d : List ℕ} {marks : List Bool} (inside : ℕ → Bool) →
+    Led inside (agrees (stepIn actions next) actions (entry c)) d states → Touched states actions next c d marks → Quiet states actions next d marks
+quiet-next {states} {actions} {next} {c} {d} inside dd h = record {
   agree = λ s t ls lt ms mt e.
       let a = lowest-agrees step actions (entry c) inside s (entry d s) (dd .each s ls) in
       let b = lowest-agrees step actions (entry c) inside t (entry d s) (e ∙ dd .each t lt) in
       let k = agrees-joined step actions (entry c) s (entry d s) t (agrees-turned step actions (entry c) (entry d s) s a) b in
-      agrees-of step actions (entry d) s t e
-      (λ x l. h .kept s x ls l ms ∙ ap (entry keep) (agrees-after step actions (entry c) s t x l k) ∙ sym (h .kept t x lt l mt));
+      agrees-of step actions (entry d) s t e (λ x l. h .kept s t x ls lt l ms mt (agrees-after step actions (entry c) s t x l k));
 }
   where
     step : ℕ → ℕ → ℕ
@@ -107,6 +106,11 @@ module _ {actions : ℕ} {next c : List ℕ} {inside marks : List Bool} where
             record { at = q .at; below = q .below; unmarked = q .unmarked; counts = q .counts; class = q .class; number = o ∙ q .number })
             (one-of j i (eqb j i) refl);
       }
+
+  pub lead-before : {lead : List ℕ} {s i k : ℕ} → Leads actions next c lead inside marks s → i < STATES → k ≡ entry lead i → k < STATES → k < s
+  lead-before {lead} {s} {i} {k} h li ek lk =
+      let q = h .known i li (omega arith) in
+      let m = lowest-le (flagAt inside) (agrees (stepIn actions next) actions (entry c)) (q .at) in omega (arith, q .below, q .number)
 
   pub lead-next : {lead : List ℕ} {states s i k : ℕ} → Quiet states actions next c marks → Leads actions next c lead inside marks s → s < states →
       i < STATES → i ≡ entry c s → flagAt marks s ≡ false → k ≡ entry lead i → k < STATES →
@@ -198,14 +202,18 @@ module _ {before : List Bool} {c d keep : List ℕ} {marks : List Bool} where
     }
 
     pub touched-all : {states actions : ℕ} {next : List ℕ} → Steps states actions next → Befores states actions next before → states ≤ n →
-        Touched states actions next c d keep marks
+        Touched states actions next c d marks
     touched-all {states} {actions} {next} w b l = record {
-      kept = λ s a p q z. ⊎-elim
-          (λ (e : entry d (stepIn actions next s a) ≡ entry keep (entry c (stepIn actions next s a))). e)
-          (λ (e : entry d (stepIn actions next s a) ≢ entry keep (entry c (stepIn actions next s a))).
-          let k = w .next-in s a p q in
-          let m = w .states-most in
-          not-both (b .marked s a p q) (h .seen (stepIn actions next s a) s (omega arith) (omega arith) z e))
-          (one-of (entry d (stepIn actions next s a)) (entry keep (entry c (stepIn actions next s a)))
-          (eqb (entry d (stepIn actions next s a)) (entry keep (entry c (stepIn actions next s a)))) refl);
+      kept = λ s t a ps pt q zs zt e. part s a ps q zs ∙ ap (entry keep) e ∙ sym (part t a pt q zt);
     }
+      where
+        part : (s a : ℕ) → s < states → a < actions → flagAt marks s ≡ false → entry d (stepIn actions next s a) ≡ entry keep (entry c (stepIn actions next s a))
+        part s a p q z =
+            ⊎-elim
+            (λ (e : entry d (stepIn actions next s a) ≡ entry keep (entry c (stepIn actions next s a))). e)
+            (λ (e : entry d (stepIn actions next s a) ≢ entry keep (entry c (stepIn actions next s a))).
+            let k = w .next-in s a p q in
+            let m = w .states-most in
+            not-both (b .marked s a p q) (h .seen (stepIn actions next s a) s (omega arith) (omega arith) z e))
+            (one-of (entry d (stepIn actions next s a)) (entry keep (entry c (stepIn actions next s a)))
+            (eqb (entry d (stepIn actions next s a)) (entry keep (entry c (stepIn actions next s a)))) refl)

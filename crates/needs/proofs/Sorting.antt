@@ -15,20 +15,18 @@ use lib.Seq.{getD-set-same, getD-set-other}
 use Rattle.laws.specs.Choice.{both, either, without}
 use Rattle.laws.specs.Range.{some}
 use Rattle.laws.proofs.Tests.{by-test, not-both, both-no, both-true, false-of, without-true}
-use Rattle.laws.proofs.Range.{some-at, some-of}
+use Rattle.laws.proofs.Range.{some-at, some-of, some-same}
 use Rattle.noninterference.specs.Machine as noninterference
 use Rattle.noninterference.specs.Rounds.{alike, depthIn, neededIn}
 use Rattle.noninterference.specs.Reached.{Reach}
 use Rattle.noninterference.proofs.Rounds.{alike-says, depth-is, depth-silent}
 use Rattle.model.specs.Limits.{BOXES, ARROWS}
 use Rattle.model.specs.Denoted.{machineOf, nextAt, ownerAt}
-use Rattle.model.specs.Good.{GoodTable}
 use Rattle.model.specs.declared.Machine.{Machine}
 use Rattle.reach.specs.Set.{flagAt}
-use Rattle.needs.specs.Tables.{stepIn, entry}
+use Rattle.needs.specs.Tables.{stepIn, entry, Fitting}
 use Rattle.needs.specs.Marks.{Owners, cellAt, movers, sources, Marked, wantedIn, SortedOut}
 use Rattle.needs.specs.Rounds.{Known, Refined}
-use Rattle.needs.proofs.Ranges.{some-same}
 use Rattle.needs.proofs.Classes.{tells, alike-equivalent, inside-next}
 
 blank-at : {A : Type 0} (n i : ℕ) (d : A) → getD (replicate n d) i d ≡ d
@@ -138,21 +136,21 @@ module _ (m : Machine) (next outputs : List ℕ) {inside : ℕ → Bool} (w : Kn
 
 -- ---- the loop over the boxes
 pub record Sorting (m : Machine) (next outputs : List ℕ) (inside : List Bool) (table : List Bool) (depths : List ℕ) (u : ℕ) : Type 0 where
-  pub good : GoodTable m next
+  pub fits : Fitting m next outputs
   pub known : Known (machineOf m next outputs) (flagAt inside)
   pub sorted : SortedOut (machineOf m next outputs) (flagAt inside) table depths u
 
-pub sorting-none : {m : Machine} {next outputs : List ℕ} {inside : List Bool} → GoodTable m next → Known (machineOf m next outputs) (flagAt inside) →
+pub sorting-none : {m : Machine} {next outputs : List ℕ} {inside : List Bool} → Fitting m next outputs → Known (machineOf m next outputs) (flagAt inside) →
     Sorting m next outputs inside (replicate ARROWS false) (replicate BOXES 0) 0
-sorting-none {m} {next} {outputs} g w = record { good = g; known = w; sorted = sorted-none m next outputs w }
+sorting-none {m} {next} {outputs} g w = record { fits = g; known = w; sorted = sorted-none m next outputs w }
 
 module _ {m : Machine} {next outputs : List ℕ} {inside table : List Bool} {depths : List ℕ} {u : ℕ} (h : Sorting m next outputs inside table depths u) where
   pub box-small : m .boxes ≤ 16
-  box-small = h .good .machine .boxes-most
+  box-small = h .fits .good .machine .boxes-most
 
   pub owners-in : {owners : List ℕ} → owners ≡ m .owners → Owners (m .actions) owners
   owners-in e = record {
-    owner-in = λ a l. let z : getD (m .owners) a 0 < m .boxes = h .good .machine .owner-in a l in rw e (omega (arith, box-small));
+    owner-in = λ a l. let z : getD (m .owners) a 0 < m .boxes = h .fits .good .machine .owner-in a l in rw e (omega (arith, box-small));
   }
 
   pub sorting-more : {owners : List ℕ} (c : List ℕ) {k : ℕ} {table′ : List Bool} → owners ≡ m .owners → u < m .boxes →
@@ -160,7 +158,7 @@ module _ {m : Machine} {next outputs : List ℕ} {inside table : List Bool} {dep
       Marked table table′ u (sources owners (stepIn (m .actions) next) (m .actions) (entry c) (flagAt inside) (m .states)) →
       Sorting m next outputs inside table′ (set depths u k) (u + 1)
   sorting-more {owners} c {k} {table′} e l r t = record {
-    good = h .good;
+    fits = h .fits;
     known = h .known;
     sorted = sorted-more m next outputs (h .known) (h .sorted) (omega (arith, box-small)) r
         (subst (λ o. Marked table table′ u (sources o (stepIn (m .actions) next) (m .actions) (entry c) (flagAt inside) (m .states))) e t);
@@ -169,7 +167,7 @@ module _ {m : Machine} {next outputs : List ℕ} {inside table : List Bool} {dep
   pub sorting-silent : {owners : List ℕ} → owners ≡ m .owners → u < m .boxes → some (m .actions) (λ a. eqb (getD owners a 0) u) ≡ false →
       Sorting m next outputs inside table depths (u + 1)
   sorting-silent e l f = record {
-    good = h .good;
+    fits = h .fits;
     known = h .known;
     sorted = sorted-silent m next outputs (h .known) (h .sorted) (omega (arith, box-small)) (subst (λ o. some (m .actions) (λ a. eqb (getD o a 0) u) ≡ false) e f);
   }

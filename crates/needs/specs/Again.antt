@@ -1,8 +1,9 @@
 -- Which states a round looks at again: those with a next state outside the part that is kept of its old class.
 use mathlib.Core.Path.{_≡_}
+use mathlib.Core.Logic.{_≢_}
 use mathlib.Core.Bool.{Bool, true, false}
 use mathlib.Core.List.{List}
-use Prim.Native.Nat.{ℕ, _+_, _*_, _<_}
+use Prim.Native.Nat.{ℕ, _+_, _*_, _<_, _≤_}
 use lib.ListN.{length}
 use Rattle.laws.specs.Choice.{either}
 use Rattle.model.specs.Limits.{STATES}
@@ -19,10 +20,28 @@ pub record Merged (before marks marks′ : List Bool) (x : ℕ) : Type 0 where
   pub long : length marks′ ≡ STATES
   pub each : (s : ℕ) → s < STATES → flagAt marks′ s ≡ either (flagAt marks s) (flagAt before (x * STATES + s))
 
--- of a state that is not marked every next state is in the part kept
-pub record Touched (states actions : ℕ) (next c d keep : List ℕ) (marks : List Bool) : Type 0 where
-  pub kept : (s a : ℕ) → s < states → a < actions → flagAt marks s ≡ false →
-      entry d (stepIn actions next s a) ≡ entry keep (entry c (stepIn actions next s a))
+-- next states that had one number have one again, where the states that they come from are not marked
+pub record Touched (states actions : ℕ) (next c d : List ℕ) (marks : List Bool) : Type 0 where
+  pub kept : (s t a : ℕ) → s < states → t < states → a < actions → flagAt marks s ≡ false → flagAt marks t ≡ false →
+      entry c (stepIn actions next s a) ≡ entry c (stepIn actions next t a) → entry d (stepIn actions next s a) ≡ entry d (stepIn actions next t a)
+
+-- the states below `states` whose number changed stand in the first n places
+pub record Moved (states : ℕ) (c d list : List ℕ) (n : ℕ) : Type 0 where
+  pub long : length list ≡ STATES
+  pub most : n ≤ states
+  pub within : (i : ℕ) → i < n → entry list i < states
+  pub differs : (i : ℕ) → i < n → entry d (entry list i) ≢ entry c (entry list i)
+  pub all : (s : ℕ) → s < states → entry d s ≢ entry c s → (i : ℕ) × (i < n) × (entry list i ≡ s)
+
+-- n states stand in a list
+pub record Places (list : List ℕ) (n : ℕ) : Type 0 where
+  pub most : n ≤ STATES
+  pub within : (i : ℕ) → i < n → entry list i < STATES
+
+-- every state that leads to one of the first n listed is marked
+pub record Covered (before : List Bool) (list : List ℕ) (marks : List Bool) (n : ℕ) : Type 0 where
+  pub long : length marks ≡ STATES
+  pub seen : (i s : ℕ) → i < n → s < STATES → flagAt marks s ≡ false → flagAt before (entry list i * STATES + s) ≡ false
 
 -- two states that are not marked and have one class number agree
 pub record Quiet (states actions : ℕ) (next c : List ℕ) (marks : List Bool) : Type 0 where

@@ -1,6 +1,6 @@
 -- Classes of states, each named by its first member.
 use mathlib.Core.Path.{_≡_}
-use mathlib.Core.Bool.{Bool, true}
+use mathlib.Core.Bool.{Bool, true, false}
 use mathlib.Core.List.{List}
 use Prim.Native.Nat.{ℕ, _<_, _≤_}
 use lib.Dec.{eqb}
@@ -19,6 +19,10 @@ pub record Classes (inside : ℕ → Bool) (E : ℕ → ℕ → Bool) (c : ℕ �
 -- the first state before s that counts and is alike, and s where there is none
 unfoldable pub lowest : (ℕ → Bool) → (ℕ → ℕ → Bool) → ℕ → ℕ
 lowest inside E s = first s λ t. both (inside t) (E t s)
+
+-- none before t counts and is alike
+pub record Missed (inside : ℕ → Bool) (E : ℕ → ℕ → Bool) (s t : ℕ) : Type 0 where
+  pub none : (j : ℕ) → j < t → both (inside j) (E j s) ≡ false
 
 -- t and s have one class number, now and after each action
 unfoldable pub agrees : (ℕ → ℕ → ℕ) → ℕ → (ℕ → ℕ) → ℕ → ℕ → Bool

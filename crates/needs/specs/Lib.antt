@@ -6,3 +6,5 @@ pub mod Listed
 pub mod Answered
 pub mod Demand
 pub mod Again
+pub mod Starts
+pub mod Own

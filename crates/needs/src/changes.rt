@@ -2,9 +2,9 @@
 ghost use mathlib.Core.Path.{_≡_};
 ghost use Prim.Native.Nat.{_<_, _≤_};
 ghost use lib.ListN.{length};
-ghost use Rattle.needs.specs.Tables.{entry, Steps};
+ghost use Rattle.needs.specs.Tables.{Steps};
 ghost use Rattle.needs.specs.Classes.{Below};
-ghost use Rattle.needs.specs.Again.{Befores, Merged, Touched};
+ghost use Rattle.needs.specs.Again.{Befores, Merged, Touched, Moved, Places, Covered};
 use crate::PAIRS;
 use crate::numbers::or;
 use crate::numbers::step;
@@ -49,7 +49,7 @@ pub(crate) fn touched(
     requires { ⌜ Steps states actions (now next) ⌝ }
     requires { ⌜ Befores states actions (now next) (now before) ⌝ }
     requires { ⌜ Below states (now c) ⌝ }
-    ensures { λ r. ⌜ Touched states actions (now (next .entry)) (now (c .entry)) (now (d .entry)) (now (keep .entry)) r ⌝ }
+    ensures { λ r. ⌜ Touched states actions (now (next .entry)) (now (c .entry)) (now (d .entry)) r ⌝ }
 {
     let mut marks = [false; STATES];
     'states: for x in 0..states {
@@ -77,6 +77,9 @@ pub(crate) fn sizes(d: &[u8; STATES], states: usize) -> [u8; STATES]
     sizes
 }
 
+// So many states that moved are few.
+const FEW: usize = 8;
+
 // The number of the largest part of each class, so that few states are marked. Whatever it is, the rounds are right.
 pub(crate) fn largest(c: &[u8; STATES], d: &[u8; STATES], states: usize) -> [u8; STATES]
     requires { ⌜ (states ≤ 128) × Below states (now c) ⌝ }
@@ -95,4 +98,41 @@ pub(crate) fn largest(c: &[u8; STATES], d: &[u8; STATES], states: usize) -> [u8;
         keep[old] = d[s];
     }
     keep
+}
+
+// Marks the states that lead to one that moved.
+pub(crate) fn leading(before: &[bool; PAIRS], moved: &[u8; STATES], count: usize) -> [bool; STATES]
+    requires { ⌜ Places (now moved) count ⌝ }
+    ensures { λ r. ⌜ Covered (now (before .entry)) (now (moved .entry)) r count ⌝ }
+{
+    let mut marks = [false; STATES];
+    'moved: for i in 0..count {
+        let x = wide(moved[i]);
+        merge(&mut marks, before, x);
+    }
+    marks
+}
+
+// Marks the states to look at again. Where many moved, the largest part of each class is looked for and only what leads elsewhere is marked.
+pub(crate) fn again(
+    before: &[bool; PAIRS],
+    next: &[u16],
+    c: &[u8; STATES],
+    d: &[u8; STATES],
+    moved: &[u8; STATES],
+    count: usize,
+    states: usize,
+    actions: usize,
+) -> [bool; STATES]
+    requires { ⌜ Steps states actions (now next) ⌝ }
+    requires { ⌜ Befores states actions (now next) (now before) ⌝ }
+    requires { ⌜ Below states (now c) × Below states (now d) ⌝ }
+    requires { ⌜ Moved states (now c) (now d) (now moved) count ⌝ }
+    ensures { λ r. ⌜ Touched states actions (now (next .entry)) (now (c .entry)) (now (d .entry)) r ⌝ }
+{
+    if FEW < count {
+        let keep = largest(c, d, states);
+        return touched(before, next, c, d, &keep, states, actions);
+    }
+    leading(before, moved, count)
 }

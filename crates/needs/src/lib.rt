@@ -4,14 +4,14 @@ mod changes;
 mod numbers;
 mod outputs;
 mod rounds;
+mod starts;
 
 ghost use mathlib.Core.Path.{_≡_};
 ghost use lib.ListN.{replicate};
 ghost use Rattle.noninterference.specs.Rounds.{neededList};
-ghost use Rattle.model.specs.Good.{GoodTable};
 ghost use Rattle.model.specs.Denoted.{machineOf};
 ghost use Rattle.reach.specs.Set.{listed, flagAt, has};
-ghost use Rattle.needs.specs.Tables.{entry};
+ghost use Rattle.needs.specs.Tables.{entry, Fitting};
 ghost use Rattle.needs.specs.Again.{Befores};
 ghost use Rattle.needs.specs.Rounds.{Known, Refined};
 ghost use Rattle.needs.specs.Marks.{SortedOut};
@@ -20,11 +20,12 @@ ghost use Rattle.needs.specs.Answered.{foundIn, refusedWith, neededOf, l
 use crate::arrows::clear;
 use crate::arrows::mark;
 use crate::arrows::write_list;
+use crate::changes::again;
 use crate::changes::befores;
-use crate::changes::largest;
-use crate::changes::touched;
 use crate::outputs::first_round;
 use crate::outputs::observes;
+use crate::outputs::own_actions;
+use crate::rounds::one_class;
 use crate::rounds::round;
 use crate::rounds::settled;
 use model::ARROWS;
@@ -65,17 +66,29 @@ fn refine(
     before: &[bool; PAIRS],
     u: usize,
 ) -> Refinement
-    requires { ⌜ GoodTable machine (now next) ⌝ }
+    requires { ⌜ Fitting machine (now next) (now outputs) ⌝ }
     requires { ⌜ Known (machineOf machine (now next) (now outputs)) (flagAt (now inside)) ⌝ }
     requires { ⌜ Befores (machine .states) (machine .actions) (now next) (now before) ⌝ }
     ensures { λ r. ⌜ Refined (machineOf machine (now (next .entry)) (now (outputs .entry))) (flagAt (now (inside .entry))) u (entry (r .classes)) (r .rounds) ⌝ }
 {
     let owners = machine.owners;
-    let mut classes = first_round(outputs, &owners, inside, machine.states, machine.actions, u);
+    let own = own_actions(&owners, machine.actions, u);
+    let list = own.list;
+    let mut classes = first_round(
+        outputs,
+        &list,
+        own.count,
+        inside,
+        machine.states,
+        machine.actions,
+    );
+    if one_class(inside, &classes, machine.states) {
+        return Refinement { classes, rounds: 0 };
+    }
     let mut marks = [true; STATES];
     let mut rounds = 0;
     'rounds: loop {
-        let finer = round(
+        let outcome = round(
             next,
             inside,
             &classes,
@@ -83,16 +96,18 @@ fn refine(
             machine.states,
             machine.actions,
         );
-        if settled(inside, &classes, &finer, machine.states) {
+        let moved = outcome.moved;
+        if settled(inside, &moved, outcome.count) {
             return Refinement { classes, rounds };
         }
-        let keep = largest(&classes, &finer, machine.states);
-        marks = touched(
+        let finer = outcome.classes;
+        marks = again(
             before,
             next,
             &classes,
             &finer,
-            &keep,
+            &moved,
+            outcome.count,
             machine.states,
             machine.actions,
         );
@@ -109,7 +124,7 @@ struct Sorted {
 
 // A box without actions takes no round: it tells nothing apart.
 fn sort(machine: Machine, next: &[u16], outputs: &[u16], inside: &[bool; STATES]) -> Sorted
-    requires { ⌜ GoodTable machine (now next) ⌝ }
+    requires { ⌜ Fitting machine (now next) (now outputs) ⌝ }
     requires { ⌜ Known (machineOf machine (now next) (now outputs)) (flagAt (now inside)) ⌝ }
     ensures { λ r. ⌜ SortedOut (machineOf machine (now (next .entry)) (now (outputs .entry))) (flagAt (now (inside .entry))) (r .table) (r .depths) (machine .boxes) ⌝ }
 {
@@ -151,7 +166,7 @@ fn flags_of(reached: Set) -> [bool; STATES]
 
 // What is found in a machine that keeps to the rules.
 fn found(machine: Machine, next: &[u16], outputs: &[u16], reached: Set, list: &mut [u16]) -> Needs
-    requires { ⌜ GoodTable machine (now next) ⌝ }
+    requires { ⌜ Fitting machine (now next) (now outputs) ⌝ }
     requires { ⌜ Known (machineOf machine (now next) (now outputs)) (has reached) ⌝ }
     requires { ⌜ now list ≡ replicate 480 0 ⌝ }
     ensures { λ r. ⌜ r ≡ foundIn (machineOf machine (now (next .entry)) (now (outputs .entry))) ⌝ }

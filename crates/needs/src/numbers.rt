@@ -24,6 +24,12 @@ pub(crate) fn narrow16(x: usize) -> u16
     x as u16
 }
 
+pub(crate) fn wide16(x: u16) -> usize
+    ensures { λ r. ⌜ (r ≡ x) × (r < 65536) ⌝ }
+{
+    x as usize
+}
+
 pub(crate) fn or(a: bool, b: bool) -> bool
     ensures { λ r. ⌜ r ≡ either a b ⌝ }
 {
@@ -39,5 +45,5 @@ pub(crate) fn step(next: &[u16], states: usize, actions: usize, s: usize, a: usi
     requires { ⌜ (s < states) × (a < actions) ⌝ }
     ensures { λ r. ⌜ (r ≡ stepIn actions (now (next .entry)) s a) × (r < states) ⌝ }
 {
-    model::at(next, s * actions + a)
+    next[s * actions + a] as usize
 }

@@ -1,15 +1,22 @@
 // One round: the class number of each state from those of the round before.
 ghost use mathlib.Core.Path.{_≡_};
-ghost use Prim.Native.Nat.{_<_, _≤_};
+ghost use mathlib.Core.Logic.{_≢_};
+ghost use mathlib.Core.Bool.{not};
+ghost use Prim.Native.Nat.{_+_, _<_, _≤_};
 ghost use lib.Dec.{eqb};
 ghost use Rattle.laws.specs.Choice.{both, brings};
+ghost use Rattle.laws.specs.Range.{every};
 ghost use Rattle.reach.specs.Set.{flagAt};
 ghost use Rattle.needs.specs.Tables.{stepIn, entry, Steps};
-ghost use Rattle.needs.specs.Classes.{lowest, agrees, unchanged, Below, Led};
-ghost use Rattle.needs.specs.Again.{Quiet, Leads};
+ghost use Rattle.needs.specs.Classes.{lowest, Missed, agrees, Below, Led};
+ghost use Rattle.needs.specs.Again.{Quiet, Leads, Moved, Places};
+ghost use Rattle.needs.specs.Starts.{nextSlot, Begun};
 use crate::numbers::narrow;
 use crate::numbers::step;
 use crate::numbers::wide;
+use crate::starts::SLOTS;
+use crate::starts::next_slot;
+use crate::starts::start_of;
 use model::STATES;
 
 // Whether t and s have one class number, now and after each action.
@@ -58,8 +65,8 @@ pub(crate) fn joins(
     false
 }
 
-// The first state of the next class of s. Of the states before it only those that are the first of theirs are looked at, from the first of its old class on.
-pub(crate) fn next_first(
+// The first state of the next class of s, from a start on before which it is not. Of the states before s only those that are the first of theirs are looked at.
+pub(crate) fn first_from(
     next: &[u16],
     inside: &[bool; STATES],
     c: &[u8; STATES],
@@ -67,16 +74,16 @@ pub(crate) fn next_first(
     states: usize,
     actions: usize,
     s: usize,
+    start: usize,
 ) -> usize
     requires { ⌜ Steps states actions (now next) ⌝ }
-    requires { ⌜ Below states (now c) ⌝ }
     requires { ⌜ Led (flagAt (now inside)) (agrees (stepIn actions (now next)) actions (entry (now c))) (now d) s ⌝ }
-    requires { ⌜ s < states ⌝ }
+    requires { ⌜ Missed (flagAt (now inside)) (agrees (stepIn actions (now next)) actions (entry (now c))) s start ⌝ }
+    requires { ⌜ (start ≤ s) × (s < states) ⌝ }
     ensures { λ r. ⌜ r ≡ lowest (flagAt (now (inside .entry))) (agrees (stepIn actions (now (next .entry))) actions (entry (now (c .entry)))) s ⌝ }
     ensures { λ r. ⌜ r ≤ s ⌝ }
 {
-    let first = wide(c[s]);
-    'earlier: for t in first..s {
+    'earlier: for t in start..s {
         if wide(d[t]) != t {
             continue 'earlier;
         }
@@ -87,14 +94,44 @@ pub(crate) fn next_first(
     s
 }
 
-// The first state of the next class of s, known already where an unmarked state of its class came before.
+// The first state of the next class of s: that of its old class where they agree, else it is looked for from the start of its small number on.
+pub(crate) fn next_first(
+    next: &[u16],
+    inside: &[bool; STATES],
+    c: &[u8; STATES],
+    d: &[u8; STATES],
+    starts: &mut [u8; SLOTS],
+    states: usize,
+    actions: usize,
+    s: usize,
+) -> usize
+    requires { ⌜ Steps states actions (now next) ⌝ }
+    requires { ⌜ Below states (now c) ⌝ }
+    requires { ⌜ Led (flagAt (now inside)) (agrees (stepIn actions (now next)) actions (entry (now c))) (now d) s ⌝ }
+    requires { ⌜ Begun (flagAt (now inside)) (agrees (stepIn actions (now next)) actions (entry (now c))) (entry (now c)) (nextSlot actions (now next) (now c)) (now starts) s ⌝ }
+    requires { ⌜ (s < states) × (entry (now c) s ≢ s) ⌝ }
+    ensures { λ r. ⌜ r ≡ lowest (flagAt (now (inside .entry))) (agrees (stepIn actions (now (next .entry))) actions (entry (now (c .entry)))) s ⌝ }
+    ensures { λ r. ⌜ r ≤ s ⌝ }
+    ensures { λ r. ⌜ Begun (flagAt (now (inside .entry))) (agrees (stepIn actions (now (next .entry))) actions (entry (now (c .entry)))) (entry (now (c .entry))) (nextSlot actions (now (next .entry)) (now (c .entry))) (now (starts .exit)) (s + 1) ⌝ }
+{
+    let first = wide(c[s]);
+    if joins(next, inside, c, states, actions, first, s) {
+        return first;
+    }
+    let slot = next_slot(next, c, states, actions, s);
+    let start = start_of(starts, slot, s);
+    first_from(next, inside, c, d, states, actions, s, start)
+}
+
+// The first state of the next class of s. Only a marked state, and the first unmarked one of a class, are compared with others: `lead` keeps what the latter found.
 pub(crate) fn next_number(
     next: &[u16],
     inside: &[bool; STATES],
     c: &[u8; STATES],
     d: &[u8; STATES],
     marks: &[bool; STATES],
-    lead: &[u8; STATES],
+    lead: &mut [u8; STATES],
+    starts: &mut [u8; SLOTS],
     states: usize,
     actions: usize,
     s: usize,
@@ -104,22 +141,39 @@ pub(crate) fn next_number(
     requires { ⌜ Led (flagAt (now inside)) (agrees (stepIn actions (now next)) actions (entry (now c))) (now d) s ⌝ }
     requires { ⌜ Quiet states actions (now next) (now c) (now marks) ⌝ }
     requires { ⌜ Leads actions (now next) (now c) (now lead) (now inside) (now marks) s ⌝ }
+    requires { ⌜ Begun (flagAt (now inside)) (agrees (stepIn actions (now next)) actions (entry (now c))) (entry (now c)) (nextSlot actions (now next) (now c)) (now starts) s ⌝ }
     requires { ⌜ s < states ⌝ }
-    ensures { λ r. ⌜ r ≡ lowest (flagAt (now (inside .entry))) (agrees (stepIn actions (now (next .entry))) actions (entry (now (c .entry)))) s ⌝ }
-    ensures { λ r. ⌜ r < 128 ⌝ }
+    ensures { λ r. ⌜ (r ≡ lowest (flagAt (now (inside .entry))) (agrees (stepIn actions (now (next .entry))) actions (entry (now (c .entry)))) s) × (r < 128) ⌝ }
+    ensures { λ r. ⌜ Leads actions (now (next .entry)) (now (c .entry)) (now (lead .exit)) (now (inside .entry)) (now (marks .entry)) (s + 1) ⌝ }
+    ensures { λ r. ⌜ Begun (flagAt (now (inside .entry))) (agrees (stepIn actions (now (next .entry))) actions (entry (now (c .entry)))) (entry (now (c .entry))) (nextSlot actions (now (next .entry)) (now (c .entry))) (now (starts .exit)) (s + 1) ⌝ }
 {
-    if marks[s] {
-        return next_first(next, inside, c, d, states, actions, s);
-    }
     let old = wide(c[s]);
+    if old == s {
+        return s;
+    }
+    if marks[s] {
+        return next_first(next, inside, c, d, starts, states, actions, s);
+    }
     let known = wide(lead[old]);
     if known < STATES {
         return known;
     }
-    next_first(next, inside, c, d, states, actions, s)
+    let first = next_first(next, inside, c, d, starts, states, actions, s);
+    if inside[s] {
+        lead[old] = narrow(first);
+        return first;
+    }
+    first
 }
 
-// The next round. Only marked states, and the first unmarked one of each class, are compared with others.
+// The class numbers of the next round, and the states whose number changed: the first `count` of the list.
+pub(crate) struct Rounded {
+    pub(crate) classes: [u8; STATES],
+    pub(crate) moved: [u8; STATES],
+    pub(crate) count: usize,
+}
+
+// The next round.
 pub(crate) fn round(
     next: &[u16],
     inside: &[bool; STATES],
@@ -127,55 +181,71 @@ pub(crate) fn round(
     marks: &[bool; STATES],
     states: usize,
     actions: usize,
-) -> [u8; STATES]
+) -> Rounded
     requires { ⌜ Steps states actions (now next) ⌝ }
     requires { ⌜ Below states (now c) ⌝ }
     requires { ⌜ Quiet states actions (now next) (now c) (now marks) ⌝ }
-    ensures { λ r. ⌜ Led (flagAt (now (inside .entry))) (agrees (stepIn actions (now (next .entry))) actions (entry (now (c .entry)))) r states ⌝ }
+    ensures { λ r. ⌜ Led (flagAt (now (inside .entry))) (agrees (stepIn actions (now (next .entry))) actions (entry (now (c .entry)))) (r .classes) states ⌝ }
+    ensures { λ r. ⌜ Moved states (now (c .entry)) (r .classes) (r .moved) (r .count) ⌝ }
 {
     let mut d = [0u8; STATES];
     let mut lead = [128u8; STATES];
+    let mut starts = [128u8; SLOTS];
+    let mut moved = [0u8; STATES];
+    let mut count = 0;
     'states: for s in 0..states {
-        let first = next_number(next, inside, c, &d, marks, &lead, states, actions, s);
+        let first = next_number(
+            next,
+            inside,
+            c,
+            &d,
+            marks,
+            &mut lead,
+            &mut starts,
+            states,
+            actions,
+            s,
+        );
         d[s] = narrow(first);
-        if marks[s] {
+        if first == wide(c[s]) {
             continue 'states;
         }
-        if inside[s] {
-            let old = wide(c[s]);
-            lead[old] = narrow(first);
-            continue 'states;
-        }
+        moved[count] = narrow(s);
+        count += 1;
     }
-    d
+    Rounded {
+        classes: d,
+        moved,
+        count,
+    }
 }
 
-// Whether s does not count, or its class number stays.
-pub(crate) fn stays(inside: &[bool; STATES], c: &[u8; STATES], d: &[u8; STATES], s: usize) -> bool
-    requires { ⌜ s < 128 ⌝ }
-    ensures { λ r. ⌜ r ≡ brings (flagAt (now (inside .entry)) s) (eqb (entry (now (c .entry)) s) (entry (now (d .entry)) s)) ⌝ }
+// Whether no state that moved counts.
+pub(crate) fn settled(inside: &[bool; STATES], moved: &[u8; STATES], count: usize) -> bool
+    requires { ⌜ Places (now moved) count ⌝ }
+    ensures { λ r. ⌜ r ≡ every count (λ i. not (flagAt (now (inside .entry)) (entry (now (moved .entry)) i))) ⌝ }
 {
-    if inside[s] {
-        return c[s] == d[s];
+    'moved: for i in 0..count {
+        let s = wide(moved[i]);
+        if inside[s] {
+            return false;
+        }
     }
     true
 }
 
-// Whether a round changed no class number of a state that counts.
-pub(crate) fn settled(
-    inside: &[bool; STATES],
-    c: &[u8; STATES],
-    d: &[u8; STATES],
-    states: usize,
-) -> bool
+// Whether all states that count have number 0: one class, which no round splits.
+pub(crate) fn one_class(inside: &[bool; STATES], c: &[u8; STATES], states: usize) -> bool
     requires { ⌜ states ≤ 128 ⌝ }
-    ensures { λ r. ⌜ r ≡ unchanged states (flagAt (now (inside .entry))) (entry (now (c .entry))) (entry (now (d .entry))) ⌝ }
+    ensures { λ r. ⌜ r ≡ every states (λ s. brings (flagAt (now (inside .entry)) s) (eqb (entry (now (c .entry)) s) 0)) ⌝ }
 {
     'states: for s in 0..states {
-        if stays(inside, c, d, s) {
+        if c[s] == 0 {
             continue 'states;
         }
-        return false;
+        if inside[s] {
+            return false;
+        }
     }
     true
 }

@@ -10,7 +10,7 @@ use native.Mathlib.Nat.{suc-mul}
 use lib.ListN.{length, length-append}
 use Rattle.laws.specs.Choice.{choose}
 use Rattle.laws.specs.Range.{count}
-use Rattle.laws.proofs.Tests.{by-test, not-both}
+use Rattle.laws.proofs.Tests.{by-test}
 use Rattle.laws.proofs.Range.{below-suc}
 use Rattle.laws.proofs.Count.{count-less}
 use Rattle.noninterference.specs.Needed.{Arrow, arrow, Ahead, AllAhead, Ascending, Member, Once}

@@ -1,22 +1,22 @@
 -- The three searches find nothing exactly when the conditions hold; what they find is broken, and nothing earlier is.
 -- Assumes nothing.
-use mathlib.Core.Path.{_≡_, refl, sym, ap, subst}
-use mathlib.Core.Logic.{_⊎_, inl, inr, ⊎-elim, _↔_, _≢_, by-cases}
-use mathlib.Core.Bool.{Bool, true, false, not}
+use mathlib.Core.Path.{_≡_, refl, sym, ap}
+use mathlib.Core.Logic.{_⊎_, ⊎-elim, _↔_, by-cases}
+use mathlib.Core.Bool.{Bool, true, not}
 use mathlib.Core.List.{List, [], _∷_}
 use mathlib.Core.Option.{Option, none, some}
 use Prim.Native.Nat.{ℕ, _<_}
 use native.Mathlib.Omega.{arith}
 use native.Mathlib.Decide.{ℕ-discrete}
-use lib.Dec.{eqb, ltb}
+use lib.Dec.{ltb}
 use lib.ListN.{getD}
 use borrow.Author.Tests.{eqb-true, eqb-false, eq-eqb, ne-eqb, ltb-true, lt-ltb, not-true}
-use Rattle.laws.specs.Choice.{both, without, when, orElse}
+use Rattle.laws.specs.Choice.{orElse}
 use Rattle.laws.specs.Order.{Earlier}
-use Rattle.laws.proofs.Tests.{both-of, both-true, without-of, without-true, not-both}
+use Rattle.laws.proofs.Tests.{both-of, both-true, without-of, without-true}
 use Rattle.laws.proofs.Range.{by-order}
-use Rattle.laws.proofs.Search.{no-answer, or-none, or-some}
-use Rattle.laws.proofs.Nested.{Searched, Found, Below, Guarded, Here, searched-range, searched-when, searched-flag}
+use Rattle.laws.proofs.Search.{or-none, or-some}
+use Rattle.laws.proofs.Nested.{Searched, Below, Guarded, Here, searched-range, searched-when, searched-flag}
 use Rattle.noninterference.specs.Machine.{Machine}
 use Rattle.noninterference.specs.Purge.{Policy, Kind, plain, intransitive}
 use Rattle.noninterference.specs.Conditions.{States, ByView, Output, Respect, Step, Conditions}

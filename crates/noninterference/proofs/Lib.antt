@@ -8,3 +8,4 @@ pub mod Rounds
 pub mod Reached
 pub mod Ascending
 pub mod NeededList
+pub mod Paths

@@ -2,18 +2,18 @@
 -- Assumes nothing.
 use mathlib.Core.Path.{_≡_, refl, sym, _∙_, ap, subst}
 use mathlib.Core.Logic.{_↔_, by-cases}
-use mathlib.Core.Bool.{Bool, true, false}
+use mathlib.Core.Bool.{true, false}
 use mathlib.Core.List.{List, [], _∷_, _++_}
-use Prim.Native.Nat.{ℕ, _<_}
+use Prim.Native.Nat.{ℕ}
 use native.Mathlib.Decide.{ℕ-discrete}
 use Rattle.laws.specs.Choice.{choose}
 use Rattle.laws.proofs.Tests.{by-test, not-both}
-use Rattle.noninterference.specs.Machine.{Machine, Owned, Run, run, after, Reachable}
+use Rattle.noninterference.specs.Machine.{Machine, Owned, run, after, Reachable}
 use Rattle.noninterference.specs.Purge.{Policy, plain, purge, keeps}
 use Rattle.noninterference.specs.Secure.{Secure, Reflexive}
 use Rattle.noninterference.specs.Conditions.{Respect}
 use Rattle.noninterference.specs.Same.{Same}
-use Rattle.noninterference.specs.Needed.{Needed, Covers}
+use Rattle.noninterference.specs.Needed.{Covers}
 use Rattle.noninterference.proofs.Runs.{run-append, join-run, reachable-closed}
 use Rattle.noninterference.proofs.Unwinding.{unwinding}
 use Rattle.noninterference.proofs.Same.{same-equivalence, same-output, same-step}

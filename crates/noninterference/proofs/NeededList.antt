@@ -1,25 +1,20 @@
 -- The computed list is the list of the needed arrows; there is only one such list, and what it cannot hold.
 -- Assumes nothing.
-use mathlib.Core.Path.{_≡_, refl, sym, ap, subst}
+use mathlib.Core.Path.{_≡_, refl, ap, subst}
 use mathlib.Core.Logic.{_↔_}
-use mathlib.Core.Bool.{Bool, true, false, not}
+use mathlib.Core.Bool.{Bool, true, not}
 use mathlib.Core.List.{List}
 use Prim.Native.Nat.{ℕ, _-_, _*_, _<_, _≤_}
-use native.Mathlib.Omega.{arith}
 use native.Mathlib.Nat.{le-refl}
-use lib.Dec.{eqb}
 use lib.ListN.{length}
-use borrow.Author.Tests.{eqb-true, eq-eqb, ne-eqb, eqb-false, not-true}
-use Rattle.laws.specs.Choice.{both, without}
-use Rattle.laws.specs.Range.{some}
-use Rattle.laws.proofs.Tests.{by-test, not-both, both-of, both-true, without-of, without-true, false-of}
+use borrow.Author.Tests.{eqb-true, eq-eqb, ne-eqb, not-true}
+use Rattle.laws.proofs.Tests.{not-both, both-of, both-true, without-of, without-true, false-of}
 use Rattle.laws.proofs.Range.{some-at, some-of}
-use Rattle.noninterference.specs.Machine.{Machine, Closed, Reachable}
-use Rattle.noninterference.specs.Same.{Same}
+use Rattle.noninterference.specs.Machine.{Machine, Closed}
 use Rattle.noninterference.specs.Depth.{Stable}
 use Rattle.noninterference.specs.Reached.{Reach, reached}
-use Rattle.noninterference.specs.Rounds.{alike, neededIn, depthOf, needs, neededList, arrowsUpto}
-use Rattle.noninterference.specs.Needed.{Needed, Arrow, arrow, Member, Ascending, Once, NeededList}
+use Rattle.noninterference.specs.Rounds.{neededIn, depthOf, needs, neededList, arrowsUpto}
+use Rattle.noninterference.specs.Needed.{Needed, Arrow, arrow, Member, Once, NeededList}
 use Rattle.noninterference.proofs.Runs.{reachable-closed}
 use Rattle.noninterference.proofs.Same.{within-same}
 use Rattle.noninterference.proofs.Rounds.{alike-says, stable-same, depth-computed}

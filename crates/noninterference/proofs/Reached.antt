@@ -1,15 +1,14 @@
 -- The computed test holds of exactly the reachable states, and no other test does.
 -- Assumes nothing.
-use mathlib.Core.Path.{_≡_, refl, sym, ap, subst}
+use mathlib.Core.Path.{_≡_, refl, sym, subst}
 use mathlib.Core.Logic.{⊎-elim}
 use mathlib.Core.Bool.{Bool, true, false, not}
 use Prim.Native.Nat.{ℕ, zero, suc, _<_, _≤_}
 use native.Mathlib.Omega.{arith}
-use lib.Dec.{eqb}
 use borrow.Author.Tests.{eqb-true, eq-eqb, not-true, not-false}
-use Rattle.laws.specs.Choice.{both, either, brings}
-use Rattle.laws.specs.Range.{every, some, count}
-use Rattle.laws.proofs.Tests.{by-test, not-both, agree, both-of, both-true, either-left, either-right, either-true, brings-at, brings-false}
+use Rattle.laws.specs.Choice.{brings}
+use Rattle.laws.specs.Range.{every, count}
+use Rattle.laws.proofs.Tests.{by-test, agree, both-of, both-true, either-left, either-right, either-true, brings-at, brings-false}
 use Rattle.laws.proofs.Range.{by-order, every-at, every-fails, some-at, some-of}
 use Rattle.laws.proofs.Count.{count-some, count-strict, count-le, count-same}
 use Rattle.noninterference.specs.Machine.{Machine, Closed, Reachable}

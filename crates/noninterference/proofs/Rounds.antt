@@ -1,23 +1,21 @@
 -- Rounds of refinement decide what runs of bounded length tell apart; a round that splits nothing is the last; the least such k
 -- exists, is the only one, and lies below the number of reachable states.
 -- Assumes nothing.
-use mathlib.Core.Path.{_≡_, refl, sym, _∙_, ap, subst}
+use mathlib.Core.Path.{_≡_, sym, ap, subst}
 use mathlib.Core.Logic.{_↔_, ⊎-elim}
-use mathlib.Core.Bool.{Bool, true, false, not}
+use mathlib.Core.Bool.{Bool, true, false}
 use mathlib.Core.List.{List, [], _∷_}
 use Prim.Native.Nat.{ℕ, zero, suc, _+_, _<_, _≤_, zero-le}
 use native.Mathlib.Omega.{arith}
 use native.Mathlib.Numerals.{add-one}
 use native.Mathlib.Nat.{not-suc-le-zero, le-of-suc-le-suc}
-use lib.Dec.{eqb}
 use lib.ListN.{length}
 use borrow.Author.Tests.{eqb-true, eq-eqb}
-use Rattle.laws.specs.Choice.{both, brings}
-use Rattle.laws.specs.Range.{every, count, first}
+use Rattle.laws.specs.Range.{count, first}
 use Rattle.laws.proofs.Tests.{by-test, not-both, both-of, both-true, brings-at, brings-of, brings-false}
 use Rattle.laws.proofs.Range.{below-suc, by-order, every-at, every-of, every-fails, first-at}
 use Rattle.laws.proofs.Count.{Equivalent, leads, leads-counts, leader, more-classes, count-some, count-mono, count-le}
-use Rattle.noninterference.specs.Machine.{Machine, Closed, Run, run, Reachable}
+use Rattle.noninterference.specs.Machine.{Machine, Run, run, Reachable}
 use Rattle.noninterference.specs.Same.{Seen, Same, Within}
 use Rattle.noninterference.specs.Depth.{Stable, Depth}
 use Rattle.noninterference.specs.Reached.{Reach}

@@ -1,11 +1,10 @@
 -- Sameness is an equivalence that meets the conditions of the unwinding theorem, all but local respect (Theorem 6).
 -- Assumes nothing.
-use mathlib.Core.Path.{_≡_, refl, sym, _∙_}
-use mathlib.Core.List.{List, [], _∷_}
-use Prim.Native.Nat.{ℕ, zero, suc, _+_, _<_, _≤_}
+use mathlib.Core.Path.{refl, sym, _∙_}
+use mathlib.Core.List.{[], _∷_}
+use Prim.Native.Nat.{ℕ, _+_, _<_, _≤_}
 use native.Mathlib.Omega.{arith}
-use lib.ListN.{length}
-use Rattle.noninterference.specs.Machine.{Machine, Run, run}
+use Rattle.noninterference.specs.Machine.{Machine, run}
 use Rattle.noninterference.specs.Conditions.{States, Equivalence, Output, OrdinaryStep}
 use Rattle.noninterference.specs.Same.{Seen, Same, Within}
 

@@ -2,14 +2,14 @@
 -- Assumes nothing.
 use mathlib.Core.Path.{_≡_, refl, sym, subst}
 use mathlib.Core.Logic.{_⊎_, inl, inr, ⊎-elim}
-use mathlib.Core.Bool.{Bool, true, false}
+use mathlib.Core.Bool.{true, false}
 use mathlib.Core.List.{List, [], _∷_}
 use Prim.Native.Nat.{ℕ}
 use Rattle.laws.specs.Choice.{choose}
 use Rattle.laws.specs.Lists.{any, elem}
 use Rattle.laws.proofs.Tests.{by-test, not-both, agree}
 use Rattle.laws.proofs.Lists.{elem-here, elem-there, elem-cases, elem-one, any-true, any-at}
-use Rattle.noninterference.specs.Purge.{Policy, Kind, plain, intransitive, purge, sources, keeps}
+use Rattle.noninterference.specs.Purge.{Policy, plain, intransitive, purge, sources, keeps}
 use Rattle.noninterference.specs.Secure.{Transitive}
 
 module _ (owner : ℕ → ℕ) (interferes : Policy) (u : ℕ) where

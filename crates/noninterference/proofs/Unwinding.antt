@@ -2,14 +2,14 @@
 -- Assumes nothing.
 use mathlib.Core.Path.{_≡_, refl, sym, _∙_, subst}
 use mathlib.Core.Bool.{Bool, true, false}
-use mathlib.Core.List.{List, [], _∷_}
+use mathlib.Core.List.{List}
 use Prim.Native.Nat.{ℕ, _<_}
 use Rattle.laws.specs.Lists.{elem}
 use Rattle.laws.proofs.Lists.{any-false}
-use Rattle.noninterference.specs.Machine.{Machine, Closed, Owned, Run, run, after}
+use Rattle.noninterference.specs.Machine.{Machine, Closed, Owned, Run, after}
 use Rattle.noninterference.specs.Purge.{Policy, Kind, plain, intransitive, purge, sources, keeps}
 use Rattle.noninterference.specs.Secure.{Secure, SecureFor}
-use Rattle.noninterference.specs.Conditions.{States, Likeness, Equivalence, ByView, Output, Respect, OrdinaryStep, WeakStep, Conditions}
+use Rattle.noninterference.specs.Conditions.{States, Likeness, Equivalence, ByView, Output, Conditions}
 use Rattle.noninterference.proofs.Runs.{walk, run-in, purge-run}
 use Rattle.noninterference.proofs.Sources.{source-self, source-stays, dropped-of}
 

@@ -1,6 +1,6 @@
 -- Security, over the kind of purge.
 use mathlib.Core.Path.{_≡_}
-use mathlib.Core.Bool.{Bool, true, false}
+use mathlib.Core.Bool.{Bool, true}
 use mathlib.Core.List.{List}
 use Prim.Native.Nat.{ℕ, _<_}
 use Rattle.noninterference.specs.Machine.{Machine, Run, after}

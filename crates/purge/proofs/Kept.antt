@@ -1,18 +1,17 @@
 -- The walk with its sets keeps what the definitions keep.
 -- Assumes nothing.
-use mathlib.Core.Path.{_≡_, refl, sym, _∙_, ap, subst}
+use mathlib.Core.Path.{_≡_, refl, sym, _∙_, ap}
 use mathlib.Core.Bool.{Bool, true, false}
 use mathlib.Core.List.{List, [], _∷_}
-use Prim.Native.Nat.{ℕ, _+_, _*_, _<_, _≤_}
+use Prim.Native.Nat.{ℕ, _<_, _≤_}
 use native.Mathlib.Omega.{arith}
-use lib.Bits.{bitOr, or-zero-r}
+use lib.Bits.{or-zero-r}
 use lib.ListN.{getD}
-use lib.Dec.{eqb}
-use borrow.Author.Tests.{ne-eqb, eq-eqb}
+use borrow.Author.Tests.{ne-eqb}
 use Rattle.laws.specs.Choice.{choose, either}
 use Rattle.laws.specs.Lists.{All, any}
 use Rattle.laws.proofs.Tests.{by-test}
-use Rattle.noninterference.specs.Purge.{Policy, Kind, plain, intransitive, purge, sources, keeps}
+use Rattle.noninterference.specs.Purge.{Policy, plain, intransitive, purge, sources, keeps}
 use Rattle.noninterference.proofs.Sources.{keeps-is}
 use Rattle.purge.specs.Sets.{has, pack, touching, touches, marked, present}
 use Rattle.purge.proofs.Sets.{has-or, has-pack}

@@ -1,8 +1,8 @@
 -- What the purged runs mean: an action is kept exactly where its box is in the sources of the run that starts with it; and where the
 -- policy is transitive both kinds are one (Lemma 7).
 -- Assumes nothing.
-use mathlib.Core.Path.{_≡_, refl, sym, _∙_}
-use mathlib.Core.Bool.{Bool, true}
+use mathlib.Core.Path.{_≡_, refl, sym}
+use mathlib.Core.Bool.{Bool}
 use mathlib.Core.List.{List, [], _∷_}
 use Prim.Native.Nat.{ℕ, zero, suc, _<_}
 use native.Mathlib.Omega.{arith}
@@ -10,14 +10,14 @@ use native.Mathlib.Nat.{le-of-suc-le-suc}
 use lib.ListN.{length, getD, drop}
 use Rattle.laws.specs.Choice.{choose}
 use Rattle.laws.specs.Lists.{elem}
-use Rattle.noninterference.specs.Purge.{intransitive, plain, sources, keeps}
+use Rattle.noninterference.specs.Purge.{intransitive, sources, keeps}
 use Rattle.noninterference.specs.Secure.{Transitive}
 use Rattle.noninterference.proofs.Sources.{purges-agree}
 use Rattle.model.specs.Denoted.{ownerAt, policyOf}
 use Rattle.model.specs.declared.Model.{Model}
 use Rattle.model.proofs.Good.{model-good}
 use Rattle.purge.specs.Sets.{marked, present}
-use Rattle.purge.specs.Purged.{Askable, keptOf, kindOf}
+use Rattle.purge.specs.Purged.{Askable, keptOf}
 use Rattle.purge.specs.declared.Kind.the-variants.{Plain, Intransitive}
 use Rattle.purge.proofs.Kept.{present-marked}
 use Rattle.purge.proofs.Written.{named-run}

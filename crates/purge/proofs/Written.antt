@@ -1,14 +1,13 @@
 -- What is marked and gathered is the purged run.
 -- Assumes nothing.
-use mathlib.Core.Path.{_≡_, refl, sym, _∙_, ap, subst}
+use mathlib.Core.Path.{_≡_, refl, _∙_, ap}
 use mathlib.Core.Bool.{Bool, true, false}
 use mathlib.Core.List.{List, [], _∷_, _++_}
-use Prim.Native.Nat.{ℕ, zero, suc, _+_, _-_, _*_, _<_, _≤_}
+use Prim.Native.Nat.{ℕ, suc, _+_, _-_, _*_, _<_}
 use native.Mathlib.Omega.{arith}
 use lib.ListN.{length, getD, replicate}
 use borrow.Author.Tests.{ltb-true}
 use Rattle.laws.specs.Lists.{All}
-use Rattle.laws.specs.Range.{every}
 use Rattle.laws.proofs.Range.{every-at}
 use Rattle.model.specs.Denoted.{policyOf, ownerAt}
 use Rattle.model.specs.Good.{GoodMachine, GoodDrawing}

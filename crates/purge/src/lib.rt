@@ -3,9 +3,9 @@ use model::Model;
 ghost use mathlib.Core.Path.{_≡_};
 ghost use mathlib.Core.Bool.{true, false, cond};
 ghost use mathlib.Core.List.{_++_};
-ghost use Prim.Native.Nat.{ℕ, _+_, _-_, _*_, _<_, _≤_};
+ghost use Prim.Native.Nat.{ℕ, _+_, _-_, _*_, _<_};
 ghost use lib.ListN.{length, getD, replicate};
-ghost use Rattle.model.specs.Denoted.{policyOf};
+ghost use Rattle.model.specs.Limits.{BOXES};
 ghost use Rattle.purge.specs.Purged.{namesActions, keptOf, result, written, purgedOf, Added, Askable};
 ghost use Rattle.purge.specs.Sets.{has, pack, touching, marked, touches, present};
 
@@ -60,8 +60,8 @@ fn bit(flag: bool) -> u32
 
 // The boxes that interfere with box u.
 fn interferers(arrows: &[bool; model::ARROWS], u: usize) -> u32
-    requires { ⌜ u < 16 ⌝ }
-    ensures { λ r. ⌜ r ≡ pack (λ v. getD (now (arrows .entry)) (v * 16 + u) false) 0 16 ⌝ }
+    requires { ⌜ u < BOXES ⌝ }
+    ensures { λ r. ⌜ r ≡ pack (λ v. getD (now (arrows .entry)) (v * BOXES + u) false) 0 BOXES ⌝ }
 {
     let mut set: u32 = 0;
     let mut v = model::BOXES;
@@ -74,7 +74,7 @@ fn interferers(arrows: &[bool; model::ARROWS], u: usize) -> u32
 
 // The boxes that interfere with each box.
 fn all_interferers(arrows: &[bool; model::ARROWS]) -> [u32; model::BOXES]
-    ensures { λ r. ⌜ ((u : ℕ) → u < 16 → getD r u 0 ≡ pack (λ v. getD (now (arrows .entry)) (v * 16 + u) false) 0 16) ⌝ }
+    ensures { λ r. ⌜ ((u : ℕ) → u < BOXES → getD r u 0 ≡ pack (λ v. getD (now (arrows .entry)) (v * BOXES + u) false) 0 BOXES) ⌝ }
 {
     let mut sets = [0u32; model::BOXES];
     'boxes: for u in 0..model::BOXES {

@@ -27,7 +27,7 @@ use Rattle.reach.specs.Explored.{moving, Complete}
 use Rattle.reach.specs.Answered.{outcomeOf, flagsOf}
 use Rattle.reach.specs.declared.Set.{Set}
 use Rattle.reach.specs.declared.Outcome.the-variants.{Found, Refused}
-use Rattle.reach.proofs.Tables.{tabulated, tabulate-at, length-tabulate}
+use Rattle.laws.proofs.Tables.{tabulated, tabulate-at, length-tabulate}
 
 -- no two sets list the same flags
 pub listed-injective : (a b : Set) → listed a ≡ listed b → a ≡ b

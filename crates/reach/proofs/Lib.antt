@@ -1,4 +1,3 @@
-pub mod Tables
 pub mod Worklist
 pub mod Answered
 pub mod Told

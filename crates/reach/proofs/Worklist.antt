@@ -24,7 +24,7 @@ use Rattle.model.specs.declared.Machine.{Machine}
 use Rattle.laws.proofs.Cells.{cell, row}
 use Rattle.reach.specs.Set.{flagAt}
 use Rattle.reach.specs.Explored.{moving, Entered, Explored, Complete}
-use Rattle.reach.proofs.Tables.{set-true, set-stays, count-set, count-none}
+use Rattle.laws.proofs.Tables.{set-true, set-stays, count-set, count-none}
 
 -- the state s that stands next in the worklist, of whose actions those below a are looked at
 pub record Looking (m : Machine) (next : List ℕ) (flags : List Bool) (work : List ℕ) (done n s a : ℕ) : Type 0 where

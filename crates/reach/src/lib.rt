@@ -3,6 +3,7 @@ ghost use mathlib.Core.Path.{_≡_};
 ghost use mathlib.Core.Bool.{false};
 ghost use Prim.Native.Nat.{_+_, _<_};
 ghost use lib.ListN.{replicate};
+ghost use Rattle.model.specs.Limits.{STATES};
 ghost use Rattle.model.specs.Good.{GoodTable};
 ghost use Rattle.reach.specs.Set.{listed, has, size};
 ghost use Rattle.reach.specs.Explored.{Explored, Complete};
@@ -99,7 +100,7 @@ fn explore(machine: Machine, next: &[u16]) -> Set
 // The empty set, with the number of the refusal.
 fn refused(number: usize) -> Answer
     ensures { λ r. ⌜ r .outcome ≡ Outcome.Refused number 0 ⌝ }
-    ensures { λ r. ⌜ listed (r .set) ≡ replicate 128 false ⌝ }
+    ensures { λ r. ⌜ listed (r .set) ≡ replicate STATES false ⌝ }
 {
     Answer {
         outcome: Outcome::Refused { number, line: 0 },

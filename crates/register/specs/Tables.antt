@@ -3,7 +3,6 @@ use mathlib.Core.Bool.{Bool, true, false}
 use mathlib.Core.List.{List, [], _∷_, _++_}
 use Prim.Native.Nat.{ℕ, zero, suc, _+_, _-_, _*_}
 use lib.ListN.{length, getD, set, replicate}
-use Rattle.laws.specs.Range.{tabulate}
 use Rattle.model.specs.Limits.{BOXES, ARROWS}
 
 -- a list made so long with zeros

@@ -1,29 +1,28 @@
 -- The first field of a line and those after it, by their places. Assumes nothing.
 use Prim.Native.Nat.{ℕ, suc, _+_, _-_, _<_, _≤_}
-use mathlib.Core.Path.{_≡_, sym, _∙_}
-use mathlib.Core.List.{List, _∷_}
+use mathlib.Core.Path.{_≡_, sym, ap, _∙_}
+use mathlib.Core.Bool.{true}
+use mathlib.Core.List.{List}
 use native.Mathlib.Omega.{arith}
 use lib.ListN.{length, take, drop}
+use lib.Seq.{length-take-le}
 use borrow.Author.Tests.{ne-eqb}
 use Rattle.model.specs.Limits.{LARGEST-ID}
 use Rattle.text.specs.Number.{number}
-use Rattle.text.specs.Lines.{before, fields, fieldsAt, fieldFrom, endOf}
-use Rattle.text.proofs.Parts.{fields-all, fields-next, fields-none, end-within}
+use Rattle.text.specs.Lines.{before, fieldsAt, fieldFrom, endOf, same}
+use Rattle.text.proofs.Parts.{before-le, fields-all, fields-next, fields-none, first-field, same-is, end-within}
 use Rattle.sheet.specs.declared.Record.the-variants.{Not}
 use Rattle.sheet.specs.Numbers.{word, rest}
 use Rattle.sheet.specs.Records.{boxOf, boxFields}
 
-module _ (l : List ℕ) (e : ℕ) (h : e ≡ endOf 9 l 0) where
-  parted : fields l ≡ take (e - 0) l ∷ fieldsAt l (e + 1)
-  parted =
-      let n : e - 0 ≡ before 9 l = omega arith in
-      rw (n, h) (fields-all l ∙ fields-next l 0 (omega arith))
+pub rest-from : (l : List ℕ) (e : ℕ) → e ≡ endOf 9 l 0 → fieldsAt l (e + 1) ≡ rest l
+rest-from l e h = rw h (sym (rw (fields-all l, fields-next l 0 (omega arith))))
 
-  pub word-from : take (e - 0) l ≡ word l
-  word-from = sym (rw parted)
-
-  pub rest-from : fieldsAt l (e + 1) ≡ rest l
-  rest-from = sym (rw parted)
+-- where the first field is a word, the others start behind it
+pub rest-after : (l w : List ℕ) → same (word l) w ≡ true → fieldsAt l (length w + 1) ≡ rest l
+rest-after l w e =
+    rest-from l (length w)
+    (let n : length w ≡ before 9 l = ap length (sym (first-field l ∙ same-is (word l) w e)) ∙ length-take-le (before 9 l) l (before-le 9 l) in omega arith)
 
 -- the fields from a place on are two, by the ends of the first and the second
 module _ (ids l : List ℕ) (i : ℕ) where

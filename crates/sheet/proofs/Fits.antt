@@ -8,17 +8,11 @@ use native.Mathlib.Nat.{le-refl}
 use lib.ListN.{length}
 use Rattle.laws.proofs.Cells.{cell}
 use Rattle.model.specs.Limits.{NEXT-ENTRIES, OUTPUT-ENTRIES, VIEW-ENTRIES}
-use Rattle.model.specs.Made.{machineFrom, modelFrom}
 use Rattle.model.specs.Refused.{modelTableFits}
 use Rattle.model.specs.Good.{GoodMachine, GoodTable, GoodDrawing}
-use Rattle.model.specs.declared.Model.{Model}
 use Rattle.model.proofs.Good.{model-table-good}
-use Rattle.sheet.specs.Reading.{Parts, model, sheetText}
+use Rattle.sheet.specs.Reading.{Parts, modelOf, model, sheetText}
 use Rattle.sheet.proofs.Sound.{Sound, sound}
-
--- the model that a reading says
-abbrev pub modelOf : ℕ → ℕ → ℕ → ℕ → Parts → Model
-modelOf states actions boxes start p = modelFrom (machineFrom states actions boxes start (p .owners)) (p .ids) (p .drawn .arrows)
 
 module _ {states actions boxes start : ℕ} {p : Parts} (g : Sound states actions boxes start p) where
   good-machine : GoodMachine (modelOf states actions boxes start p .machine)

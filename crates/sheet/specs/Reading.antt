@@ -5,6 +5,8 @@ use mathlib.Core.Bool.{Bool, false, cond, _&&_}
 use lib.ListN.{length, getD, take, replicate}
 use lib.Dec.{eqb}
 use Rattle.model.specs.Limits.{ACTIONS, BOXES, ARROWS, NEXT-ENTRIES, OUTPUT-ENTRIES, VIEW-ENTRIES, SHEET-BYTES}
+use Rattle.model.specs.Made.{machineFrom, modelFrom}
+use Rattle.model.specs.declared.Model as models
 use Rattle.text.specs.Lines.{lines}
 use Rattle.sheet.specs.declared.Answer.{Answer}
 use Rattle.sheet.specs.declared.Answer.the-variants.{Model, Refused}
@@ -51,6 +53,10 @@ parts states actions count t v ls n =
     onGot (acts (take count ids) actions ls n) (λ owners ls n.
     onGot (drawing states actions (take count ids) t v ls n) (λ d ls n.
     got (partsAs ids owners d) ls n)))
+
+-- the model that they make
+abbrev pub modelOf : ℕ → ℕ → ℕ → ℕ → Parts → models.Model
+modelOf states actions boxes start p = modelFrom (machineFrom states actions boxes start (p .owners)) (p .ids) (p .drawn .arrows)
 
 -- what a text says: states, actions, boxes, start and the parts of a model; or a refusal
 pub data Reading : Type 0 where

@@ -52,9 +52,8 @@ fn record_of(line: &[u8], word: &[u8], limits: &[u32]) -> Record
     requires { ⌜ length (now limits) ≤ 4 ⌝ }
     ensures { λ r. ⌜ r ≡ recordOf (now (word .entry)) (now (limits .entry)) (now (line .entry)) ⌝ }
 {
-    let end = text::find(line, 0, 9);
-    if text::same(&line[0..end], word) {
-        return numbers_from(line, end + 1, limits);
+    if text::starts(line, word) {
+        return numbers_from(line, word.len() + 1, limits);
     }
     Record::Not(2)
 }
@@ -179,9 +178,8 @@ fn box_from(line: &[u8], from: usize, ids: &[u32]) -> Record
 fn box_line(line: &[u8], ids: &[u32]) -> Record
     ensures { λ r. ⌜ r ≡ boxLine (now (ids .entry)) (now (line .entry)) ⌝ }
 {
-    let end = text::find(line, 0, 9);
-    if text::same(&line[0..end], b"box") {
-        return box_from(line, end + 1, ids);
+    if text::starts(line, b"box") {
+        return box_from(line, 4, ids);
     }
     Record::Not(2)
 }
@@ -248,14 +246,13 @@ pub(crate) fn flow_line(line: &[u8], ids: &[u32]) -> Flow
     requires { ⌜ length (now ids) ≤ BOXES ⌝ }
     ensures { λ r. ⌜ r ≡ flowLine (now (ids .entry)) (now (line .entry)) ⌝ }
 {
-    let end = text::find(line, 0, 9);
-    if text::same(&line[0..end], b"flow") {
+    if text::starts(line, b"flow") {
         return match arrow_line(line, b"flow", ids) {
             Record::Not(e) => Flow::Not(e),
             Record::Numbers(from, to, _, _) => Flow::One(from, to),
         };
     }
-    if text::same(&line[0..end], b"both") {
+    if text::starts(line, b"both") {
         return match arrow_line(line, b"both", ids) {
             Record::Not(e) => Flow::Not(e),
             Record::Numbers(from, to, _, _) => Flow::Two(from, to),

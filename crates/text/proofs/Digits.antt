@@ -13,7 +13,7 @@ use Rattle.text.specs.declared.Number.{Number}
 use Rattle.text.specs.declared.Number.the-variants.{Good, Bad}
 use Rattle.text.specs.declared.Field.{Field}
 use Rattle.text.specs.Number.{onNumber, digit, more, number, digits, decimal}
-use Rattle.text.specs.Lines.{endOf, numberFrom, moreFrom}
+use Rattle.text.specs.Lines.{endOf, fieldFrom, numberFrom, moreFrom}
 use Rattle.text.proofs.Parts.{field-here, field-past, field-over, end-here, end-past, end-over}
 
 abbrev pub found : Number → ℕ → Field
@@ -23,6 +23,18 @@ found n e = record { number = n; end = e }
 digit-tab : (limit v d : ℕ) → d ≡ 9 → digit limit v d ≡ Bad
 unfolding digit
 digit-tab limit v d e = simp (lt-ltb d 48 (omega arith))
+
+pub digit-no-tab : (limit v d w : ℕ) → digit limit v d ≡ Good w → d ≡ 9 → ⊥
+digit-no-tab limit v d w g e = let z : Good w ≡ Bad = sym g ∙ digit-tab limit v d e in let y : _≡_ {A = ℕ} 0 1 = cc in omega arith
+
+-- a number that has begun stays above 0
+pub digit-some : (limit v d w : ℕ) → digit limit v d ≡ Good w → 0 < v → 0 < w
+unfolding digit
+digit-some limit v d w h p = go (ltb d 48 || ltb 57 d || ltb limit (v * 10 + (d - 48))) h
+  where
+    go : (t : Bool) → cond t Bad (Good (v * 10 + (d - 48))) ≡ Good w → 0 < w
+    go true h = let z : _≡_ {A = ℕ} 0 1 = cc in absurd (omega arith)
+    go false h = let z : v * 10 + (d - 48) ≡ w = cc in omega arith
 
 module _ (limit : ℕ) (l : List ℕ) (i : ℕ) where
   pub more-over : (v : ℕ) → length l ≤ i → found (Good v) i ≡ moreFrom limit l i v
@@ -71,7 +83,16 @@ module _ (limit : ℕ) (l : List ℕ) (i : ℕ) where
     number-good w g = sym (rw (field-past l i h no-tab, end-past l 9 i h no-tab) (simp g))
       where
         no-tab : getD l i 0 ≡ 9 → ⊥
-        no-tab e = let z : Good w ≡ Bad = sym g ∙ digit-tab limit 0 (getD l i 0) e in let y : _≡_ {A = ℕ} 0 1 = cc in omega arith
+        no-tab = digit-no-tab limit 0 (getD l i 0) w g
+
+-- behind a first digit 0 the limit has no say
+pub zero-any : (limit : ℕ) (l : List ℕ) (i : ℕ) → moreFrom 0 l i 0 ≡ moreFrom limit l i 0
+unfolding more
+zero-any limit l i = go (fieldFrom l i)
+  where
+    go : (f : List ℕ) → found (more 0 f 0) (endOf 9 l i) ≡ found (more limit f 0) (endOf 9 l i)
+    go [] = refl
+    go (d ∷ ds) = refl
 
 -- a number is at most its limit
 digit-limit : (limit v d w : ℕ) → digit limit v d ≡ Good w → w ≤ limit

@@ -2,16 +2,16 @@
 use Prim.Native.Nat.{ℕ, zero, suc, _+_, _-_, _<_, _≤_, zero-le, suc-le-suc}
 use mathlib.Core.Path.{_≡_, refl, sym, ap, _∙_}
 use mathlib.Core.List.{List, [], _∷_}
-use mathlib.Core.Bool.{Bool, true, false, cond}
+use mathlib.Core.Bool.{Bool, true, false, cond, _&&_}
 use native.Mathlib.Omega.{arith}
 use native.Mathlib.Decide.{decLt}
 use native.Mathlib.Numerals.{add-one}
 use lib.ListN.{length, getD, take, drop, length-drop, drop-of-length-le}
-use lib.Seq.{drop-cons, drop-drop, getD-drop}
+use lib.Seq.{drop-cons, drop-drop, getD-drop, length-take-le}
 use lib.Dec.{ltb, leb, eqb, leb·zero, leb·suc-suc}
-use borrow.Author.Tests.{ltb-true, ltb-false, eq-eqb, ne-eqb, le-leb, lt-leb}
+use borrow.Author.Tests.{eqb-true, ltb-true, ltb-false, eq-eqb, ne-eqb, le-leb, lt-leb}
 use Rattle.text.specs.declared.Line.the-variants.{At, End}
-use Rattle.text.specs.Lines.{lineFrom, before, onto, lines, fields, endOf, fieldFrom, fieldsAt, Ended}
+use Rattle.text.specs.Lines.{lineFrom, before, onto, lines, fields, endOf, fieldFrom, fieldsAt, same, Ended}
 
 -- what stands from a place on: its first byte and the rest
 pub at : (s : List ℕ) (i : ℕ) → i < length s → drop i s ≡ getD s i 0 ∷ drop (i + 1) s
@@ -52,6 +52,9 @@ module _ (s : List ℕ) (b i : ℕ) where
 
   pub end-past : i < length s → (getD s i 0 ≡ b → ⊥) → endOf b s i ≡ endOf b s (i + 1)
   end-past h e = rw (at s i h) (omega (arith, before-other _ b (drop (i + 1) s) (ne-eqb _ _ e)))
+
+  pub end-next : (j : ℕ) → j ≡ i + 1 → i < length s → (getD s i 0 ≡ b → ⊥) → endOf b s j ≡ endOf b s i
+  end-next j q h e = ap (λ (k : ℕ). endOf b s k) q ∙ sym (end-past h e)
 
   pub end-over : length s ≤ i → endOf b s i ≡ i
   unfolding before
@@ -99,6 +102,36 @@ fields-next l i h =
     go : Dec (before 9 (drop i l) < length l - i) → leb (suc (before 9 (drop i l))) (length l - i) ≡ leb (endOf 9 l i + 1) (length l)
     go (yes g) = le-leb (suc (before 9 (drop i l))) (length l - i) (omega arith) ∙ sym (le-leb (endOf 9 l i + 1) (length l) (omega arith))
     go (no g) = lt-leb (suc (before 9 (drop i l))) (length l - i) (omega arith) ∙ sym (lt-leb (endOf 9 l i + 1) (length l) (omega arith))
+
+-- the first field, which is no longer than its line
+pub first-field : (l : List ℕ) → fieldFrom l 0 ≡ getD (fields l) 0 []
+first-field l = sym (rw (fields-all l, fields-next l 0 (omega arith)))
+
+pub field-length : (l : List ℕ) → length (getD (fields l) 0 []) ≤ length l
+field-length l = rw (← first-field l, length-take-le (before 9 l) l (before-le 9 l)) (before-le 9 l)
+
+pub same-is : (a b : List ℕ) → same a b ≡ true → a ≡ b
+unfolding same
+same-is [] [] e = refl
+same-is [] (y ∷ ys) e = let z : _≡_ {A = ℕ} 0 1 = cc in absurd (omega arith)
+same-is (x ∷ xs) [] e = let z : _≡_ {A = ℕ} 0 1 = cc in absurd (omega arith)
+same-is (x ∷ xs) (y ∷ ys) e = go (eqb x y) refl (same-is xs ys) e
+  where
+    go : (t : Bool) → eqb x y ≡ t → (same xs ys ≡ true → xs ≡ ys) → (t && same xs ys) ≡ true → _≡_ {A = List ℕ} (x ∷ xs) (y ∷ ys)
+    go true q f e = let a : x ≡ y = eqb-true x y q in let b : xs ≡ ys = f e in cc
+    go false q f e = let z : _≡_ {A = ℕ} 0 1 = cc in absurd (omega arith)
+
+-- bytes of another length are not the same
+pub same-length : (a b : List ℕ) → (length a ≡ length b → ⊥) → false ≡ same a b
+unfolding same
+same-length [] [] n = absurd (n refl)
+same-length [] (y ∷ ys) n = refl
+same-length (x ∷ xs) [] n = refl
+same-length (x ∷ xs) (y ∷ ys) n = go (eqb x y) (same-length xs ys (λ e. n (ap suc e)))
+  where
+    go : (t : Bool) → false ≡ same xs ys → false ≡ (t && same xs ys)
+    go true h = h
+    go false h = refl
 
 -- a text with an LF: its first line and the rest
 lines-cons : (l : List ℕ) → before 10 l < length l → lines l ≡ take (before 10 l) l ∷ lines (drop (suc (before 10 l)) l)

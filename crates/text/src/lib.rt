@@ -1,7 +1,10 @@
 // Bytes: decimal numbers both ways, lines and fields, and writing into a lent tail. Every function takes anything.
 ghost use mathlib.Core.Path.{_≡_};
+ghost use mathlib.Core.List.{[]};
+ghost use Prim.Native.Nat.{_<_};
+ghost use lib.ListN.{getD};
 ghost use Rattle.text.specs.Number.{digit, decimal};
-ghost use Rattle.text.specs.Lines.{same, endOf, lineFrom, numberFrom, moreFrom};
+ghost use Rattle.text.specs.Lines.{fields, same, endOf, lineFrom, numberFrom, moreFrom};
 ghost use Rattle.text.specs.Written.{Written, fitting};
 
 // What a field of digits says.
@@ -40,6 +43,32 @@ pub fn find(s: &[u8], at: usize, b: u8) -> usize
     i
 }
 
+// Where the first LF stands, four bytes a turn, which spares half of the loop's own cost.
+fn line_end(text: &[u8], at: usize) -> usize
+    ensures { λ r. ⌜ r ≡ endOf 10 (now (text .entry)) at ⌝ }
+{
+    let mut i = at;
+    while i < text.len() {
+        if text.len() - i < 4 {
+            return find(text, i, 10);
+        }
+        if text[i] == 10 {
+            return i;
+        }
+        if text[i + 1] == 10 {
+            return i + 1;
+        }
+        if text[i + 2] == 10 {
+            return i + 2;
+        }
+        if text[i + 3] == 10 {
+            return i + 3;
+        }
+        i += 4;
+    }
+    i
+}
+
 // The line that starts at `at`.
 pub fn find_line(text: &[u8], at: usize) -> Line
     ensures { λ r. ⌜ r ≡ lineFrom (now (text .entry)) at ⌝ }
@@ -47,7 +76,7 @@ pub fn find_line(text: &[u8], at: usize) -> Line
     if text.len() <= at {
         return Line::End;
     }
-    let end = find(text, at, 10);
+    let end = line_end(text, at);
     Line::At {
         start: at,
         end,
@@ -81,21 +110,27 @@ pub fn line_from(text: &[u8], at: usize) -> Line
     next_line(open_at(text, at))
 }
 
-// Are the bytes of `a` those of `b`.
-pub fn same(a: &[u8], b: &[u8]) -> bool
-    ensures { λ r. ⌜ r ≡ same (now (a .entry)) (now (b .entry)) ⌝ }
+// Is the word the first field of the line.
+pub fn starts(line: &[u8], word: &[u8]) -> bool
+    ensures { λ r. ⌜ r ≡ same (getD (fields (now (line .entry))) 0 []) (now (word .entry)) ⌝ }
 {
+    if line.len() < word.len() {
+        return false;
+    }
     let mut i = 0;
-    while i < a.len() {
-        if b.len() <= i {
+    while i < word.len() {
+        if line[i] != word[i] {
             return false;
         }
-        if a[i] != b[i] {
+        if line[i] == 9 {
             return false;
         }
         i += 1;
     }
-    i == b.len()
+    if i < line.len() {
+        return line[i] == 9;
+    }
+    true
 }
 
 // The value with one digit more.
@@ -131,29 +166,50 @@ pub fn number_from(line: &[u8], at: usize, limit: u32) -> Field
             end: find(line, at, 9),
         };
     };
+    if first == 0 {
+        return zero_from(line, at + 1);
+    }
     more_from(line, at + 1, limit, first)
+}
+
+// The same, after a first digit 0, behind which nothing may stand.
+fn zero_from(line: &[u8], at: usize) -> Field
+    ensures { λ r. ⌜ r ≡ moreFrom 0 (now (line .entry)) at 0 ⌝ }
+{
+    if line.len() <= at {
+        return Field {
+            number: Number::Good(0),
+            end: at,
+        };
+    }
+    if line[at] == 9 {
+        return Field {
+            number: Number::Good(0),
+            end: at,
+        };
+    }
+    Field {
+        number: Number::Bad,
+        end: find(line, at, 9),
+    }
 }
 
 // The same, after the digits that made `first`.
 fn more_from(line: &[u8], at: usize, limit: u32, first: u32) -> Field
+    requires { ⌜ 0 < first ⌝ }
     ensures { λ r. ⌜ r ≡ moreFrom limit (now (line .entry)) at first ⌝ }
 {
     let mut value = first;
     let mut i = at;
     while i < line.len() {
-        if line[i] == 9 {
-            return Field {
-                number: Number::Good(value),
-                end: i,
-            };
-        }
-        if value == 0 {
-            return Field {
-                number: Number::Bad,
-                end: find(line, i, 9),
-            };
-        }
-        let Number::Good(v) = grown(limit, value, line[i]) else {
+        let byte = line[i];
+        let Number::Good(v) = grown(limit, value, byte) else {
+            if byte == 9 {
+                return Field {
+                    number: Number::Good(value),
+                    end: i,
+                };
+            }
             return Field {
                 number: Number::Bad,
                 end: find(line, i, 9),

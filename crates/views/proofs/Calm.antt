@@ -1,24 +1,29 @@
 -- What the guards say of the searches: where a guard holds there is no broken place.
 -- Assumes nothing.
 use mathlib.Core.Path.{_≡_, refl, sym, ap, subst, _∙_}
-use mathlib.Core.Bool.{true, false}
+use mathlib.Core.Bool.{Bool, true, false}
+use mathlib.Core.Logic.{by-cases}
 use mathlib.Core.List.{List}
 use mathlib.Core.Option.{none}
-use Prim.Native.Nat.{ℕ, _+_, _*_, _<_}
+use Prim.Native.Nat.{ℕ, _+_, _*_, _<_, _≤_}
+use native.Mathlib.Nat.{not-suc-le-zero}
+use native.Mathlib.Decide.{ℕ-discrete}
 use native.Mathlib.Omega.{arith}
-use lib.ListN.{getD}
+use borrow.Author.Count.{below-more}
+use lib.ListN.{length, getD, set, length-set, replicate, length-replicate}
+use lib.Seq.{getD-set-same, getD-set-other}
 use borrow.Author.Tests.{eq-eqb, eqb-true}
-use Rattle.laws.proofs.Tests.{without-none, both-true}
+use Rattle.laws.proofs.Tests.{not-both, not-yes, without-none, both-true}
 use Rattle.laws.proofs.Range.{every-at}
 use Rattle.laws.proofs.Search.{firstOf-empty, when-rest, when-no}
-use Rattle.model.specs.Limits.{STATES}
+use Rattle.model.specs.Limits.{STATES, ACTIONS, BOXES, NEXT-ENTRIES}
 use Rattle.model.specs.Denoted.{ownerAt}
 use Rattle.model.specs.Good.{GoodMachine, GoodTable}
 use Rattle.model.specs.declared.Machine.{Machine}
-use Rattle.views.specs.Tables.{alikeIn, leaksIn, tearsIn}
-use Rattle.views.specs.Guards.{classAt, lowAt, sent, Small, Low, Lows, Nexts, aloneIn, strongIn, quietIn, Calm}
-use Rattle.views.proofs.Searches.{outputAt, outputFrom, outputOf, stepAt, stepFrom, stepUnder, stepOf}
-use Rattle.views.proofs.Lows.{least-same, least-like}
+use Rattle.views.specs.Tables.{alikeIn, leaksIn, movesIn, tearsIn}
+use Rattle.views.specs.Guards.{KEPT, classAt, lowAt, sent, Small, Low, Lows, Nexts, Idle, Keeps, Kept, Alones, aloneIn, strongIn, quietIn, Calm}
+use Rattle.views.proofs.Searches.{outputAt, outputFrom, outputOf, respectAt, respectFrom, stepAt, stepFrom, stepUnder, stepOf}
+use Rattle.views.proofs.Lows.{least-same, least-like, same-at}
 
 -- ---- bounds
 pub low-small : {low : List ℕ} (u s : ℕ) {x : ℕ} → Small low → x ≡ lowAt low u s → x < STATES
@@ -46,6 +51,20 @@ alone-same : (states : ℕ) (low : List ℕ) (u : ℕ) → aloneIn states low u 
 unfolding aloneIn
 alone-same states low u h s t p q r = sym (eqb-true _ _ (every-at _ _ h s p)) ∙ r ∙ eqb-true _ _ (every-at _ _ h t q)
 
+pub alones-none : (states : ℕ) (low : List ℕ) → Alones states low (replicate BOXES false)
+alones-none states low =
+    record { size = length-replicate {A = Bool} BOXES false; alone = λ u e. not-both e (same-at BOXES u false) }
+
+pub alones-more : {states : ℕ} {low : List ℕ} {alones : List Bool} {u : ℕ} {b : Bool} → Alones states low alones → u < BOXES →
+    b ≡ aloneIn states low u → Alones states low (set alones u b)
+alones-more {states} {low} {alones} {u} {b} h l q = record {
+  size = length-set alones u b ∙ h .size;
+  alone = λ v e. by-cases (ℕ-discrete v u)
+      (λ p. subst (λ x. aloneIn states low x ≡ true) (sym p)
+      (sym q ∙ sym (getD-set-same alones u b false (omega (arith, h .size))) ∙ ap (λ x. getD (set alones u b) x false) (sym p) ∙ e))
+      (λ n. h .alone v (sym (getD-set-other alones u v b false n) ∙ e));
+}
+
 -- no two states are alike to u, or to o
 pub alone-calm : (states actions : ℕ) (next low : List ℕ) (u o a : ℕ) → aloneIn states low u ≡ true → Calm states actions next low u o a
 alone-calm states actions next low u o a h =
@@ -55,8 +74,53 @@ pub alone-owner : (states actions : ℕ) (next low : List ℕ) (u o a : ℕ) →
 alone-owner states actions next low u o a h =
     record { calm = λ s t p q r k. ap (sent actions next low u a) (alone-same states low o h s t p q k) }
 
-pub nexts : {m : Machine} {next : List ℕ} → GoodTable m next → Nexts (m .states) (m .actions) next
-nexts g = record { states-most = g .machine .states-most; actions-most = g .machine .actions-most; next-in = g .next-in }
+pub nexts : {m : Machine} {next : List ℕ} → length next ≡ NEXT-ENTRIES → GoodTable m next → Nexts (m .states) (m .actions) next
+nexts e g = record { states-most = g .machine .states-most; actions-most = g .machine .actions-most; size = e; next-in = g .next-in }
+
+-- ---- no state changes
+pub idle-none : (actions : ℕ) (next : List ℕ) (a : ℕ) → Idle 0 actions next a
+idle-none actions next a = record { idle = λ s l. absurd (not-suc-le-zero l) }
+
+pub idle-more : {n actions : ℕ} {next : List ℕ} {a x : ℕ} → Idle n actions next a → x ≡ getD next (n * actions + a) 0 → x ≡ n → Idle (n + 1) actions next a
+idle-more {n} {actions} {next} {a} h ex e =
+    record { idle = below-more (λ s. getD next (s * actions + a) 0 ≡ s) n (h .idle) (sym ex ∙ e) }
+
+pub idle-all : {n states actions : ℕ} {next : List ℕ} {a : ℕ} → Idle n actions next a → states ≤ n → Idle states actions next a
+idle-all h l = record { idle = λ s p. h .idle s (omega arith) }
+
+pub idle-keeps : {states actions : ℕ} {next : List ℕ} {a : ℕ} (low : List ℕ) (u : ℕ) → Idle states actions next a → Keeps states actions next low u a
+idle-keeps low u h = record { keeps = λ s l. ap (lowAt low u) (sym (h .idle s l)) }
+
+-- ---- no class changes
+pub keeps-none : (actions : ℕ) (next low : List ℕ) (u a : ℕ) → Keeps 0 actions next low u a
+keeps-none actions next low u a = record { keeps = λ s l. absurd (not-suc-le-zero l) }
+
+pub keeps-more : {n actions : ℕ} {next low : List ℕ} {u a x y : ℕ} → Keeps n actions next low u a → x ≡ lowAt low u n → y ≡ sent actions next low u a n →
+    x ≡ y → Keeps (n + 1) actions next low u a
+keeps-more {n} {actions} {next} {low} {u} {a} h ex ey e =
+    record { keeps = below-more (λ s. lowAt low u s ≡ sent actions next low u a s) n (h .keeps) (sym ex ∙ e ∙ ey) }
+
+pub keeps-all : {n states actions : ℕ} {next low : List ℕ} {u a : ℕ} → Keeps n actions next low u a → states ≤ n → Keeps states actions next low u a
+keeps-all h l = record { keeps = λ s p. h .keeps s (omega arith) }
+
+pub keeps-calm : {states actions : ℕ} {next low : List ℕ} {u a : ℕ} (o : ℕ) → Keeps states actions next low u a → Calm states actions next low u o a
+keeps-calm o h = record { calm = λ s t p q r k. sym (h .keeps s p) ∙ r ∙ h .keeps t q }
+
+pub kept-none : (states actions : ℕ) (next low : List ℕ) → Kept states actions next low (replicate KEPT false)
+kept-none states actions next low = record {
+  size = length-replicate {A = Bool} KEPT false;
+  noted = λ u a l e. not-both e (same-at KEPT (u * ACTIONS + a) false);
+}
+
+pub kept-more : {states actions : ℕ} {next low : List ℕ} {kept : List Bool} {u a : ℕ} → Kept states actions next low kept → u < BOXES → a < ACTIONS →
+    Keeps states actions next low u a → Kept states actions next low (set kept (u * ACTIONS + a) true)
+kept-more {states} {actions} {next} {low} {kept} {u} {a} h lu la w = record {
+  size = length-set kept (u * ACTIONS + a) true ∙ h .size;
+  noted = λ v b l e. by-cases (ℕ-discrete (v * ACTIONS + b) (u * ACTIONS + a))
+      (λ q. let eu : v ≡ u = omega arith in let ea : b ≡ a = omega arith in
+      subst (λ x. Keeps states actions next low x b) (sym eu) (subst (λ x. Keeps states actions next low u x) (sym ea) w))
+      (λ q. h .noted v b l (sym (getD-set-other kept (u * ACTIONS + a) (v * ACTIONS + b) true false q) ∙ e));
+}
 
 -- ---- the searches over pairs find nothing
 module _ {m : Machine} {next views low : List ℕ} (g : GoodTable m next) (w : Lows (m .states) (m .boxes) views low) where
@@ -75,6 +139,15 @@ module _ {m : Machine} {next views low : List ℕ} (g : GoodTable m next) (w : L
       firstOf-empty (m .states) (stepFrom (m .states) (m .actions) (m .owners) next views u a) (λ s p. when-rest true
       (firstOf-empty (m .states) (stepAt (m .states) (m .actions) (m .owners) next views u a s) (λ t q. when-rest true (when-rest _ (when-no _
       (tears-off lu (g .machine .owner-in a la) la (subst (λ x. Calm (m .states) (m .actions) next low u x a) e h) s t p q))))))
+
+  -- the search over states finds nothing
+  pub keeps-still : {u a : ℕ} (owners : List ℕ) (arrows : List Bool) → u < m .boxes → a < m .actions → Keeps (m .states) (m .actions) next low u a →
+      respectFrom (m .states) (m .actions) owners arrows next views u a ≡ none
+  unfolding movesIn alikeIn
+  keeps-still {u} {a} owners arrows lu la h =
+      when-rest _ (firstOf-empty (m .states) (respectAt (m .states) (m .actions) owners arrows next views u a)
+      (λ s p. when-rest true (when-no _ (sym (not-yes
+      (eq-eqb _ _ (least-like (w .least u s lu p) (w .least u _ lu (g .next-in s a p la)) (h .keeps s p))))))))
 
   pub alone-none : {u : ℕ} → u < m .boxes → aloneIn (m .states) low u ≡ true → stepOf (m .states) (m .actions) (m .owners) next views u ≡ none
   alone-none {u} lu h =

@@ -1,15 +1,10 @@
 -- What the code's flags say of one place, and what the answer is there.
 -- Assumes nothing.
 use mathlib.Core.Path.{_≡_, refl, sym, ap, _∙_}
-use mathlib.Core.Bool.{Bool, true, false, not}
 use mathlib.Core.Option.{Option, some, none}
-use Prim.Native.Nat.{ℕ, _+_, _<_}
+use Prim.Native.Nat.{ℕ, _<_}
 use native.Mathlib.Omega.{arith}
-use lib.Dec.{ltb}
-use borrow.Author.Tests.{le-ltb, lt-ltb}
-use Rattle.laws.specs.Choice.{both, without, when, orElse}
-use Rattle.laws.specs.Search.{Passed}
-use Rattle.laws.proofs.Search.{when-yes, when-no, when-rest}
+use Rattle.laws.specs.Choice.{orElse}
 use Rattle.noninterference.specs.Place.{Place, output, respect, step}
 use Rattle.model.specs.Limits.{BOXES}
 use Rattle.model.specs.Denoted.{ownerAt}
@@ -18,38 +13,6 @@ use Rattle.model.specs.declared.Machine.{Machine}
 use Rattle.views.specs.Judgement.{answer}
 use Rattle.views.specs.declared.Judgement.{Judgement}
 use Rattle.views.specs.declared.Judgement.the-variants.{Accepted, Output, Respect, Step}
-
--- ---- joined tests
-pub not-yes : {b : Bool} → b ≡ true → false ≡ not b
-not-yes e = rw e
-
-pub not-no : {b : Bool} → b ≡ false → true ≡ not b
-not-no e = rw e
-
-pub without-not : {a : Bool} (b : Bool) → a ≡ false → false ≡ without a b
-unfolding without
-without-not b e = rw e
-
-pub without-met : (a : Bool) {b : Bool} → b ≡ true → false ≡ without a b
-unfolding without
-without-met true e = rw e
-without-met false e = refl
-
-pub without-on : {a : Bool} (b : Bool) → a ≡ true → not b ≡ without a b
-unfolding without
-without-on true e = rw e
-without-on false e = rw e
-
--- ---- a place that counts
-pub when-hit : {A : Type 0} {b : Bool} (x : Option A) (v : A) → b ≡ true → x ≡ some v → when b x ≡ some v
-when-hit x v e q = when-yes x e ∙ q
-
--- a pair s < t is looked at, and no other
-pub pair-hit : {A : Type 0} (s t : ℕ) (x : Option A) (v : A) → s < t → x ≡ some v → when true (when (ltb s t) x) ≡ some v
-pair-hit s t x v l e = when-hit _ v refl (when-hit x v (lt-ltb s t l) e)
-
-pub pairs-passed : {A : Type 0} (f : ℕ → Option A) (s : ℕ) → Passed (s + 1) (λ t. when true (when (ltb s t) (f t)))
-pairs-passed f s = record { clear = λ k l. when-rest true (when-no (f k) (le-ltb s k (omega arith))) }
 
 -- the action's box is a box
 pub owner-in : {m : Machine} {o a : ℕ} → GoodMachine m → a < m .actions → o ≡ ownerAt m a → o < m .boxes

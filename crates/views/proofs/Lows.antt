@@ -96,15 +96,15 @@ module _ {states : ℕ} {views slots : List ℕ} {u s c h t : ℕ} (w : Slots st
           omega arith
 
 -- ---- the table
-zeros-at : (n i : ℕ) → _≡_ {A = ℕ} (getD (replicate n 0) i 0) 0
-zeros-at zero i = refl
-zeros-at (suc n) zero = refl
-zeros-at (suc n) (suc i) = zeros-at n i
+pub same-at : {A : Type 0} (n i : ℕ) (x : A) → getD (replicate n x) i x ≡ x
+same-at zero i x = refl
+same-at (suc n) zero x = refl
+same-at (suc n) (suc i) x = same-at n i x
 
 pub filled-none : (states : ℕ) (views : List ℕ) → Filled states views (replicate LOWS 0) 0 0
 filled-none states views = record {
   size = length-replicate {A = ℕ} LOWS 0;
-  small = record { small = λ i. let e = zeros-at LOWS i in omega arith };
+  small = record { small = λ i. let e = same-at {A = ℕ} LOWS i 0 in omega arith };
   rows = λ v j l. absurd (not-suc-le-zero l);
   row = λ j l. absurd (not-suc-le-zero l);
 }

@@ -28,7 +28,7 @@ use Rattle.views.specs.declared.Judgement.the-variants.{Accepted, Output
 use Rattle.views.proofs.Flags.{answer-accepted}
 
 -- ---- no answer of a search is a refusal, and two places have two answers
-answer-refused {ℓ} : {X : Type ℓ} {n l : ℕ} (x : Option Place) → Refused n l ≡ answer x → X
+pub answer-refused {ℓ} : {X : Type ℓ} {n l : ℕ} (x : Option Place) → Refused n l ≡ answer x → X
 unfolding answer
 answer-refused none e = absurd (let z : _≡_ {A = ℕ} 0 1 = cc in omega arith)
 answer-refused (some (output a s t)) e = absurd (let z : _≡_ {A = ℕ} 0 1 = cc in omega arith)

@@ -1,4 +1,4 @@
--- What spares the judge its loops over pairs of states: the first alike state of each state, and what it settles.
+-- What spares the judge its loops over states and pairs of states: the first alike state of each state, and what it settles.
 use mathlib.Core.Path.{_≡_}
 use mathlib.Core.Bool.{Bool, true, false}
 use mathlib.Core.List.{List}
@@ -6,9 +6,9 @@ use Prim.Native.Nat.{ℕ, _+_, _*_, _<_, _≤_, _/_, _%_}
 use lib.Dec.{eqb}
 use lib.ListN.{getD, length}
 use Rattle.laws.specs.Range.{every}
-use Rattle.model.specs.Limits.{STATES, ACTIONS}
+use Rattle.model.specs.Limits.{STATES, ACTIONS, BOXES, NEXT-ENTRIES}
 
--- the first alike states; the slots of one box; the numbers of pairs of classes
+-- the first alike states; the slots of one box; the numbers of pairs of classes; what is noted for each box and action
 abbrev pub LOWS : ℕ
 LOWS = 2048
 
@@ -17,6 +17,9 @@ SLOTS = 256
 
 abbrev pub SPOTS : ℕ
 SPOTS = 16384
+
+abbrev pub KEPT : ℕ
+KEPT = 512
 
 abbrev pub classAt : ℕ → List ℕ → ℕ → ℕ → ℕ
 classAt states views u s = getD views (u * states + s) 0
@@ -70,11 +73,30 @@ pub record Slots (states : ℕ) (views : List ℕ) (u n : ℕ) (slots : List ℕ
 pub record Nexts (states actions : ℕ) (next : List ℕ) : Type 0 where
   pub states-most : states ≤ STATES
   pub actions-most : actions ≤ ACTIONS
+  pub size : length next ≡ NEXT-ENTRIES
   pub next-in : (s a : ℕ) → s < states → a < actions → getD next (s * actions + a) 0 < states
+
+-- the action changes no state
+pub record Idle (states actions : ℕ) (next : List ℕ) (a : ℕ) : Type 0 where
+  pub idle : (s : ℕ) → s < states → getD next (s * actions + a) 0 ≡ s
+
+-- the action changes no state's class for u
+pub record Keeps (states actions : ℕ) (next low : List ℕ) (u a : ℕ) : Type 0 where
+  pub keeps : (s : ℕ) → s < states → lowAt low u s ≡ sent actions next low u a s
+
+-- what is noted holds: box × ACTIONS + action
+pub record Kept (states actions : ℕ) (next low : List ℕ) (kept : List Bool) : Type 0 where
+  pub size : length kept ≡ KEPT
+  pub noted : (u a : ℕ) → a < ACTIONS → getD kept (u * ACTIONS + a) false ≡ true → Keeps states actions next low u a
 
 -- no two states are alike to u
 unfoldable pub aloneIn : ℕ → List ℕ → ℕ → Bool
 aloneIn states low u = every states λ s. eqb (lowAt low u s) s
+
+-- what is found out for each box holds
+pub record Alones (states : ℕ) (low : List ℕ) (alones : List Bool) : Type 0 where
+  pub size : length alones ≡ BOXES
+  pub alone : (u : ℕ) → getD alones u false ≡ true → aloneIn states low u ≡ true
 
 -- each state and the first one alike to u go to states alike to u
 unfoldable pub strongIn : ℕ → ℕ → List ℕ → List ℕ → ℕ → ℕ → Bool

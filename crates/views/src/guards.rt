@@ -1,10 +1,10 @@
-// What spares the judge its loops over pairs of states. Each guard reads the table of first alike states.
+// What spares the judge its loops over states and pairs of states. Guards read the table of first alike states.
 ghost use mathlib.Core.Path.{_≡_};
-ghost use mathlib.Core.Bool.{true};
+ghost use mathlib.Core.Bool.{true, false};
 ghost use Prim.Native.Nat.{_+_, _*_, _<_, _≤_};
 ghost use lib.ListN.{length, getD};
-ghost use Rattle.model.specs.Limits.{STATES, ACTIONS, BOXES};
-ghost use Rattle.views.specs.Guards.{SLOTS, SPOTS, lowAt, sent, spot, Least, Small, Low, Lows, Filled, slotOf, Slots, Nexts, aloneIn, strongIn, quietIn, Links, Calm};
+ghost use Rattle.model.specs.Limits.{STATES, ACTIONS, BOXES, NEXT-ENTRIES, OUTPUT-ENTRIES};
+ghost use Rattle.views.specs.Guards.{SLOTS, SPOTS, lowAt, sent, spot, Least, Small, Low, Lows, Filled, slotOf, Slots, Nexts, Idle, Keeps, Kept, Alones, aloneIn, strongIn, quietIn, Links, Calm};
 use super::entry;
 
 // The first alike states, box × STATES + state; the slots of one box; the numbers of pairs of classes.
@@ -13,6 +13,15 @@ pub const LOWS: usize = 2048;
 const SLOTS: usize = 256;
 
 pub const SPOTS: usize = 16384;
+
+// What is noted for each box and action, box × ACTIONS + action.
+pub const KEPT: usize = 512;
+
+fn broad(x: u16) -> usize
+    ensures { λ r. ⌜ r ≡ x ⌝ }
+{
+    x as usize
+}
 
 fn wide(x: u8) -> usize
     ensures { λ r. ⌜ r ≡ x ⌝ }
@@ -92,6 +101,15 @@ pub(crate) fn lows(views: &[u16], states: usize, boxes: usize) -> [u8; LOWS]
     low
 }
 
+// What a table of next states or outputs has for the action at s. No index is tested, since the length is known.
+fn at_state(table: &[u16], actions: usize, a: usize, s: usize) -> usize
+    requires { ⌜ length (now table) ≡ NEXT-ENTRIES ⌝ }
+    requires { ⌜ (actions ≤ ACTIONS) × (a < actions) × (s < STATES) ⌝ }
+    ensures { λ r. ⌜ r ≡ getD (now (table .entry)) (s * actions + a) 0 ⌝ }
+{
+    broad(table[s * actions + a])
+}
+
 fn low_of(low: &[u8; LOWS], u: usize, s: usize) -> usize
     requires { ⌜ (u < BOXES) × (s < STATES) ⌝ }
     ensures { λ r. ⌜ r ≡ lowAt (now (low .entry)) u s ⌝ }
@@ -101,15 +119,16 @@ fn low_of(low: &[u8; LOWS], u: usize, s: usize) -> usize
 
 // The same of the state that the action leads to.
 fn sends(low: &[u8; LOWS], next: &[u16], actions: usize, u: usize, a: usize, s: usize) -> usize
-    requires { ⌜ (actions ≤ ACTIONS) × (u < BOXES) × (a < ACTIONS) × (s < STATES) ⌝ }
+    requires { ⌜ length (now next) ≡ NEXT-ENTRIES ⌝ }
+    requires { ⌜ (actions ≤ ACTIONS) × (u < BOXES) × (a < actions) × (s < STATES) ⌝ }
     requires { ⌜ getD (now next) (s * actions + a) 0 < STATES ⌝ }
     ensures { λ r. ⌜ r ≡ sent actions (now (next .entry)) (now (low .entry)) u a s ⌝ }
 {
-    low_of(low, u, entry(next, s, actions, a))
+    low_of(low, u, at_state(next, actions, a, s))
 }
 
 // Whether no two states are alike to u.
-pub(crate) fn alone(low: &[u8; LOWS], states: usize, u: usize) -> bool
+fn alone(low: &[u8; LOWS], states: usize, u: usize) -> bool
     requires { ⌜ (states ≤ STATES) × (u < BOXES) ⌝ }
     ensures { λ r. ⌜ r ≡ aloneIn states (now (low .entry)) u ⌝ }
 {
@@ -119,6 +138,122 @@ pub(crate) fn alone(low: &[u8; LOWS], states: usize, u: usize) -> bool
         }
     }
     true
+}
+
+// The same of every box, since step asks again for each action.
+pub(crate) fn alones(low: &[u8; LOWS], states: usize, boxes: usize) -> [bool; model::BOXES]
+    requires { ⌜ (states ≤ STATES) × (boxes ≤ BOXES) ⌝ }
+    ensures { λ r. ⌜ Alones states (now (low .entry)) r ⌝ }
+{
+    let mut alones = [false; model::BOXES];
+    'boxes: for u in 0..boxes {
+        alones[u] = alone(low, states, u);
+    }
+    alones
+}
+
+// What was found out for u.
+pub(crate) fn is_alone(alones: &[bool; model::BOXES], u: usize) -> bool
+    requires { ⌜ u < BOXES ⌝ }
+    ensures { λ r. ⌜ r ≡ getD (now (alones .entry)) u false ⌝ }
+{
+    alones[u]
+}
+
+// What was noted for u and the action.
+fn was_kept(kept: &[bool; KEPT], u: usize, a: usize) -> bool
+    requires { ⌜ (u < BOXES) × (a < ACTIONS) ⌝ }
+    ensures { λ r. ⌜ r ≡ getD (now (kept .entry)) (u * ACTIONS + a) false ⌝ }
+{
+    kept[u * model::ACTIONS + a]
+}
+
+// Whether the action changes some state.
+fn stirs(next: &[u16], states: usize, actions: usize, a: usize) -> bool
+    requires { ⌜ Nexts states actions (now next) ⌝ }
+    requires { ⌜ a < actions ⌝ }
+    ensures { λ r. ⌜ (r ≡ false → Idle states actions (now (next .entry)) a) ⌝ }
+{
+    'states: for s in 0..states {
+        if at_state(next, actions, a, s) != s {
+            return true;
+        }
+    }
+    false
+}
+
+// An action that changes none is noted for every box.
+fn note_idle(
+    low: &[u8; LOWS],
+    next: &[u16],
+    kept: &mut [bool; KEPT],
+    states: usize,
+    actions: usize,
+    a: usize,
+)
+    requires { ⌜ Kept states actions (now next) (now low) (now kept) ⌝ }
+    requires { ⌜ Idle states actions (now next) a ⌝ }
+    requires { ⌜ a < ACTIONS ⌝ }
+    ensures { λ r. ⌜ Kept states actions (now (next .entry)) (now (low .entry)) (now (kept .exit)) ⌝ }
+{
+    'boxes: for u in 0..model::BOXES {
+        kept[u * model::ACTIONS + a] = true;
+    }
+}
+
+// What is noted beforehand: the actions that change no state, as those that only look.
+pub(crate) fn idles(low: &[u8; LOWS], next: &[u16], states: usize, actions: usize) -> [bool; KEPT]
+    requires { ⌜ Nexts states actions (now next) ⌝ }
+    ensures { λ r. ⌜ Kept states actions (now (next .entry)) (now (low .entry)) r ⌝ }
+{
+    let mut kept = [false; KEPT];
+    'actions: for a in 0..actions {
+        if stirs(next, states, actions, a) {
+            continue 'actions;
+        }
+        note_idle(low, next, &mut kept, states, actions, a);
+    }
+    kept
+}
+
+// Whether the action changes no state's class for u.
+fn keeps(low: &[u8; LOWS], next: &[u16], states: usize, actions: usize, u: usize, a: usize) -> bool
+    requires { ⌜ Nexts states actions (now next) ⌝ }
+    requires { ⌜ (u < BOXES) × (a < actions) ⌝ }
+    ensures { λ r. ⌜ (r ≡ true → Keeps states actions (now (next .entry)) (now (low .entry)) u a) ⌝ }
+{
+    'states: for s in 0..states {
+        if low_of(low, u, s) != sends(low, next, actions, u, a, s) {
+            return false;
+        }
+    }
+    true
+}
+
+// The same, and noted, since what respect looked at step need not look at again.
+pub(crate) fn note_kept(
+    low: &[u8; LOWS],
+    next: &[u16],
+    kept: &mut [bool; KEPT],
+    states: usize,
+    actions: usize,
+    u: usize,
+    a: usize,
+) -> bool
+    requires { ⌜ Kept states actions (now next) (now low) (now kept) ⌝ }
+    requires { ⌜ Nexts states actions (now next) ⌝ }
+    requires { ⌜ (u < BOXES) × (a < actions) ⌝ }
+    ensures { λ r. ⌜ Kept states actions (now (next .entry)) (now (low .entry)) (now (kept .exit)) ⌝ }
+    ensures { λ r. ⌜ (r ≡ true → Keeps states actions (now (next .entry)) (now (low .entry)) u a) ⌝ }
+{
+    if was_kept(kept, u, a) {
+        return true;
+    }
+    if keeps(low, next, states, actions, u, a) {
+        kept[u * model::ACTIONS + a] = true;
+        return true;
+    }
+    false
 }
 
 // Whether each state and the first one alike to u go to states alike to u.
@@ -193,10 +328,12 @@ fn weak(
     true
 }
 
-// Whether the loops over pairs would find nothing for u and a, an action of o, by three guards, the cheapest first.
+// Whether the loops over pairs would find nothing for u and a, an action of o, by four guards, the cheapest first.
 pub(crate) fn settled(
     low: &[u8; LOWS],
     next: &[u16],
+    kept: &[bool; KEPT],
+    alones: &[bool; model::BOXES],
     table: &mut [u8; SPOTS],
     states: usize,
     actions: usize,
@@ -208,14 +345,19 @@ pub(crate) fn settled(
     requires { ⌜ Nexts states actions (now next) ⌝ }
     requires { ⌜ Small (now low) ⌝ }
     requires { ⌜ Low states (now low) u ⌝ }
+    requires { ⌜ Kept states actions (now next) (now low) (now kept) ⌝ }
+    requires { ⌜ Alones states (now low) (now alones) ⌝ }
     requires { ⌜ (u < BOXES) × (o < BOXES) × (a < actions) ⌝ }
     ensures { λ r. ⌜ length (now (table .exit)) ≡ SPOTS ⌝ }
     ensures { λ r. ⌜ (r ≡ true → Calm states actions (now (next .entry)) (now (low .entry)) u o a) ⌝ }
 {
-    if strong(low, next, states, actions, u, a) {
+    if was_kept(kept, u, a) {
         return true;
     }
-    if alone(low, states, o) {
+    if is_alone(alones, o) {
+        return true;
+    }
+    if strong(low, next, states, actions, u, a) {
         return true;
     }
     weak(low, next, table, states, actions, u, o, a)
@@ -230,13 +372,14 @@ pub(crate) fn quiet(
     o: usize,
     a: usize,
 ) -> bool
+    requires { ⌜ length (now outputs) ≡ OUTPUT-ENTRIES ⌝ }
     requires { ⌜ Low states (now low) o ⌝ }
     requires { ⌜ (states ≤ STATES) × (actions ≤ ACTIONS) × (o < BOXES) × (a < actions) ⌝ }
     ensures { λ r. ⌜ r ≡ quietIn states actions (now (outputs .entry)) (now (low .entry)) o a ⌝ }
 {
     'states: for s in 0..states {
         let t = low_of(low, o, s);
-        if entry(outputs, s, actions, a) != entry(outputs, t, actions, a) {
+        if at_state(outputs, actions, a, s) != at_state(outputs, actions, a, t) {
             return false;
         }
     }

@@ -2,14 +2,14 @@
 ghost use mathlib.Core.Path.{_≡_};
 ghost use mathlib.Core.List.{[]};
 ghost use Prim.Native.Nat.{_+_, _*_, _<_, _≤_};
-ghost use lib.ListN.{getD};
+ghost use lib.ListN.{getD, length};
 ghost use Rattle.noninterference.specs.Purge.{intransitive};
 ghost use Rattle.noninterference.specs.Judged.{firstOutput, firstRespect, firstStep};
-ghost use Rattle.model.specs.Limits.{STATES, ACTIONS, BOXES};
+ghost use Rattle.model.specs.Limits.{STATES, ACTIONS, BOXES, NEXT-ENTRIES, OUTPUT-ENTRIES};
 ghost use Rattle.model.specs.Denoted.{machineOf, policyOf, viewOf};
 ghost use Rattle.model.specs.Good.{GoodMachine, GoodTable};
 ghost use Rattle.views.specs.Tables.{alikeIn, leaksIn, movesIn, tearsIn};
-ghost use Rattle.views.specs.Guards.{Lows};
+ghost use Rattle.views.specs.Guards.{Lows, Kept, Alones};
 ghost use Rattle.views.specs.Judgement.{answer, everyState, firstBroken, judgementOf};
 
 mod guards; // what spares the loops over pairs
@@ -135,6 +135,7 @@ fn first_output(
     views: &[u16],
     low: &[u8; guards::LOWS],
 ) -> Judgement
+    requires { ⌜ length (now outputs) ≡ OUTPUT-ENTRIES ⌝ }
     requires { ⌜ GoodMachine machine ⌝ }
     requires { ⌜ Lows (machine .states) (machine .boxes) (now views) (now low) ⌝ }
     ensures { λ r. ⌜ r ≡ answer (firstOutput (machineOf machine [] (now (outputs .entry))) everyState (viewOf machine (now (views .entry)))) ⌝ }
@@ -161,8 +162,18 @@ fn first_output(
 }
 
 // The first place that breaks respect, by box, action, state.
-fn first_respect(model: Model, next: &[u16], views: &[u16]) -> Judgement
+fn first_respect(
+    model: Model,
+    next: &[u16],
+    views: &[u16],
+    low: &[u8; guards::LOWS],
+    kept: &mut [bool; guards::KEPT],
+) -> Judgement
+    requires { ⌜ length (now next) ≡ NEXT-ENTRIES ⌝ }
     requires { ⌜ GoodTable (model .machine) (now next) ⌝ }
+    requires { ⌜ Lows (model .machine .states) (model .machine .boxes) (now views) (now low) ⌝ }
+    requires { ⌜ Kept (model .machine .states) (model .machine .actions) (now next) (now low) (now kept) ⌝ }
+    ensures { λ r. ⌜ Kept (model .machine .states) (model .machine .actions) (now (next .entry)) (now (low .entry)) (now (kept .exit)) ⌝ }
     ensures { λ r. ⌜ r ≡ answer (firstRespect (machineOf (model .machine) (now (next .entry)) []) everyState (policyOf model) (viewOf (model .machine) (now (views .entry)))) ⌝ }
 {
     let machine = model.machine;
@@ -176,6 +187,9 @@ fn first_respect(model: Model, next: &[u16], views: &[u16]) -> Judgement
         'actions: for a in 0..actions {
             let o = model::owner(&owners, a);
             if model::arrow(&arrows, o * model::BOXES + u) {
+                continue 'actions;
+            }
+            if guards::note_kept(low, next, kept, states, actions, u, a) {
                 continue 'actions;
             }
             'states: for s in 0..states {
@@ -194,9 +208,19 @@ fn first_respect(model: Model, next: &[u16], views: &[u16]) -> Judgement
 }
 
 // The first place that breaks step, by box, action, s, t.
-fn first_step(machine: Machine, next: &[u16], views: &[u16], low: &[u8; guards::LOWS]) -> Judgement
+fn first_step(
+    machine: Machine,
+    next: &[u16],
+    views: &[u16],
+    low: &[u8; guards::LOWS],
+    kept: &[bool; guards::KEPT],
+    alones: &[bool; model::BOXES],
+) -> Judgement
+    requires { ⌜ length (now next) ≡ NEXT-ENTRIES ⌝ }
     requires { ⌜ GoodTable machine (now next) ⌝ }
     requires { ⌜ Lows (machine .states) (machine .boxes) (now views) (now low) ⌝ }
+    requires { ⌜ Kept (machine .states) (machine .actions) (now next) (now low) (now kept) ⌝ }
+    requires { ⌜ Alones (machine .states) (now low) (now alones) ⌝ }
     ensures { λ r. ⌜ r ≡ answer (firstStep intransitive (machineOf machine (now (next .entry)) []) everyState (viewOf machine (now (views .entry)))) ⌝ }
 {
     let states = machine.states;
@@ -206,12 +230,23 @@ fn first_step(machine: Machine, next: &[u16], views: &[u16], low: &[u8; guards::
     let mut found = Judgement::Accepted;
     let mut table = [0u8; guards::SPOTS];
     'boxes: for u in 0..boxes {
-        if guards::alone(low, states, u) {
+        if guards::is_alone(alones, u) {
             continue 'boxes;
         }
         'actions: for a in 0..actions {
             let o = model::owner(&owners, a);
-            if guards::settled(low, next, &mut table, states, actions, u, o, a) {
+            if guards::settled(
+                low,
+                next,
+                kept,
+                alones,
+                &mut table,
+                states,
+                actions,
+                u,
+                o,
+                a,
+            ) {
                 continue 'actions;
             }
             'firsts: for s in 0..states {
@@ -234,22 +269,26 @@ fn first_step(machine: Machine, next: &[u16], views: &[u16], low: &[u8; guards::
 
 // All of output before respect before step.
 fn first_broken(model: Model, next: &[u16], outputs: &[u16], views: &[u16]) -> Judgement
+    requires { ⌜ (length (now next) ≡ NEXT-ENTRIES) × (length (now outputs) ≡ OUTPUT-ENTRIES) ⌝ }
     requires { ⌜ GoodTable (model .machine) (now next) ⌝ }
     ensures { λ r. ⌜ r ≡ firstBroken model (now (next .entry)) (now (outputs .entry)) (now (views .entry)) ⌝ }
 {
     let machine = model.machine;
     let states = machine.states;
+    let actions = machine.actions;
     let boxes = machine.boxes;
     let low = guards::lows(views, states, boxes);
     let output = first_output(machine, outputs, views, &low);
     let Judgement::Accepted = output else {
         return output;
     };
-    let respect = first_respect(model, next, views);
+    let mut kept = guards::idles(&low, next, states, actions);
+    let respect = first_respect(model, next, views, &low, &mut kept);
     let Judgement::Accepted = respect else {
         return respect;
     };
-    first_step(machine, next, views, &low)
+    let alones = guards::alones(&low, states, boxes);
+    first_step(machine, next, views, &low, &kept, &alones)
 }
 
 // A call that takes no sheet text gives line 0.

@@ -1,18 +1,19 @@
 -- What is written is small: every number of an answer fits, and there are few enough lines.
 -- Assumes nothing.
-use mathlib.Core.Path.{_≡_, refl, sym, _∙_, ap, subst}
+use mathlib.Core.Path.{_≡_, refl, sym, subst}
 use mathlib.Core.Logic.{⊎-elim}
-use mathlib.Core.Bool.{true, false}
+use mathlib.Core.Bool.{true}
 use mathlib.Core.List.{List}
 use mathlib.Core.Option.{some}
-use Prim.Native.Nat.{ℕ, zero, suc, _-_, _*_, _<_, _≤_}
+use Prim.Native.Nat.{ℕ, _-_, _*_, _<_, _≤_}
 use native.Mathlib.Omega.{arith}
 use native.Mathlib.Nat.{mul-le-mul}
 use native.Mathlib.Decide.{decLt}
-use lib.ListN.{length, getD, replicate}
+use lib.ListN.{length, getD}
 use Rattle.laws.specs.Range.{count}
 use Rattle.laws.proofs.Tests.{by-test, choose-no, choose-yes}
 use Rattle.laws.proofs.Count.{count-le}
+use Rattle.laws.proofs.Tables.{zero-at}
 use Rattle.noninterference.specs.Place.{Place, output, respect, step}
 use Rattle.noninterference.specs.Reached.{reached}
 use Rattle.noninterference.specs.Rounds.{neededList}
@@ -26,7 +27,6 @@ use Rattle.views.specs.Judgement as judging
 use Rattle.views.specs.Judgement.{judgementOf, answer}
 use Rattle.views.proofs.Sound.{refused-10, refused-12, accepted-or-place, first-place}
 use Rattle.needs.specs.Answered.{neededOf, listOf, lengthsFit, refusedWith, foundIn, depthsOf}
-use Rattle.needs.specs.declared.Needs.{Needs}
 use Rattle.needs.specs.Demand.{Demand}
 use Rattle.needs.proofs.Demand.{demand-3}
 use Rattle.zarpalume.specs.Lines.{Small}
@@ -59,13 +59,8 @@ module _ (m : Model) (next outputs views : List ℕ) where
       (λ l. subst Small (sym (refused-10 m next outputs views l)) (omega arith, omega arith))
 
 -- ---- the needed-arrow call's answer
-zeros : (k u : ℕ) → _≡_ {A = ℕ} (getD (replicate k 0) u 0) 0
-zeros zero u = refl
-zeros (suc k) zero = refl
-zeros (suc k) (suc u) = zeros k u
-
 refused-few : (number : ℕ) → Few (refusedWith number)
-refused-few number = record { pairs-few = omega arith; reach-small = omega arith; depth-small = λ u. let z = zeros 16 u in omega arith }
+refused-few number = record { pairs-few = omega arith; reach-small = omega arith; depth-small = λ u. let z = zero-at 16 u in omega arith }
 
 module _ (m : Machine) (next outputs list : List ℕ) where
   found-few : lengthsFit next outputs list ≡ true → machineTableFits m next ≡ true → Few (foundIn (machineOf m next outputs))

@@ -1,15 +1,16 @@
 -- The host call: zeros after what was written, and what the reader's answer makes of the verdict.
 -- Assumes nothing.
 use mathlib.Core.Path.{_≡_, refl, sym, _∙_, ap, subst}
-use mathlib.Core.Bool.{Bool, true, false}
+use mathlib.Core.Bool.{Bool, false}
 use mathlib.Core.List.{List, [], _∷_, _++_}
-use Prim.Native.Nat.{ℕ, zero, suc, _-_, _<_, _≤_}
+use Prim.Native.Nat.{ℕ, _-_, _≤_}
 use native.Mathlib.Omega.{arith}
 use lib.Dec.{eqb}
 use lib.ListN.{length, drop, replicate}
 use borrow.Author.Tests.{eq-eqb}
 use types.Run.{OneOf}
 use denote.Enum.Declared.{tagOf}
+use Rattle.laws.proofs.Tables.{drop-zeros}
 use Rattle.laws.proofs.Tests.{choose-no, choose-yes}
 use Rattle.model.specs.Limits.{NEXT-ENTRIES, OUTPUT-ENTRIES, VIEW-ENTRIES, VERDICT-BYTES}
 use Rattle.model.specs.Made.{machineFrom, modelFrom}
@@ -22,15 +23,9 @@ use Rattle.sheet.proofs.Fits.{read-fits}
 use Rattle.sheet.specs.declared.Answer.{Answer}
 use Rattle.sheet.specs.declared.Answer.the-variants as answers
 use Rattle.sheet.specs.declared.Sheet.{Sheet}
-use Rattle.sheet.specs.Reading.{Reading, model, refusal, Parts, sheetText, readingOf, partsOf, outcome, read}
-use Rattle.zarpalume.specs.Lines.{refusedLine}
-use Rattle.zarpalume.specs.Verdict.{verdictOf, refusalOf, LineSmall, modelOf, said, verdict, call, callOf}
+use Rattle.sheet.specs.Reading.{modelOf, Parts, sheetText, readingOf, partsOf, outcome, read}
+use Rattle.zarpalume.specs.Verdict.{verdictOf, refusalOf, LineSmall, said, verdict, call, callOf}
 use Rattle.zarpalume.proofs.Reading.{line-small, reading-is}
-
-drop-zeros : (n k : ℕ) → drop {A = ℕ} n (replicate k 0) ≡ replicate (k - n) 0
-drop-zeros zero k = let e : k ≡ k - 0 = omega arith in ap (λ (j : ℕ). replicate {A = ℕ} j 0) e
-drop-zeros (suc n) zero = let e : 0 ≡ 0 - suc n = omega arith in ap (λ (j : ℕ). replicate {A = ℕ} j 0) e
-drop-zeros (suc n) (suc k) = let e : k - n ≡ suc k - suc n = omega arith in drop-zeros n k ∙ ap (λ (j : ℕ). replicate {A = ℕ} j 0) e
 
 pub call-good : (sheet buffer b b′ : List ℕ) {n : ℕ} {xs : List ℕ} → length buffer ≡ VERDICT-BYTES → b ≡ replicate (length buffer) 0 →
     Written b b′ n xs → xs ≡ verdict sheet → call n b′ ≡ callOf sheet buffer

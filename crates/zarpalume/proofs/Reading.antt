@@ -1,19 +1,17 @@
 -- What the reader's answer says: the reading of the text, and a refusal's line that fits.
 -- Assumes nothing.
-use mathlib.Core.Path.{_≡_, refl, sym, _∙_, ap}
-use mathlib.Core.Bool.{Bool, true, false, cond, _&&_}
+use mathlib.Core.Path.{_≡_, refl, _∙_, ap}
+use mathlib.Core.Bool.{Bool, true, false, _&&_}
 use mathlib.Core.List.{List, [], _∷_}
 use Prim.Native.Nat.{ℕ, suc, _+_, _-_, _<_, _≤_}
 use native.Mathlib.Omega.{arith}
-use lib.Dec.{eqb, ltb, leb}
-use lib.ListN.{length, getD}
+use lib.Dec.{eqb, ltb}
+use lib.ListN.{length}
 use borrow.Author.Tests.{leb-true, eq-eqb}
 use Rattle.laws.proofs.Tests.{by-test, not-both}
 use Rattle.model.specs.Limits.{NEXT-ENTRIES, OUTPUT-ENTRIES, VIEW-ENTRIES, SHEET-BYTES}
 use Rattle.text.specs.Lines.{lines, onto}
 use Rattle.sheet.specs.declared.Sheet.{Sheet}
-use Rattle.sheet.specs.declared.Answer.{Answer}
-use Rattle.sheet.specs.declared.Answer.the-variants as answers
 use Rattle.sheet.specs.Records.{sized}
 use Rattle.sheet.specs.Meaning.{Situation, Refused, ended, bad, good, RefusedText, whole, byLine}
 use Rattle.sheet.specs.Reading.{Reading, model, refusal, given, outcome, Outcome, read, sheetText, readingOf, partsOf}

@@ -1,8 +1,8 @@
 -- What the writers put is the line that the judge's answer stands for.
 -- Assumes nothing.
-use mathlib.Core.Path.{_≡_, refl, sym, _∙_, ap, subst}
+use mathlib.Core.Path.{_≡_, sym, _∙_, ap, subst}
 use mathlib.Core.List.{List, [], _∷_, _++_}
-use Prim.Native.Nat.{ℕ, _<_}
+use Prim.Native.Nat.{ℕ}
 use lib.ListN.{getD}
 use Rattle.text.specs.Number.{decimal}
 use Rattle.text.specs.Written.{Written}

@@ -1,11 +1,10 @@
 -- The verdict on a sheet, and the host call.
 use Prim.Native.Nat.{ℕ, _-_, _<_, _≤_}
-use mathlib.Core.List.{List, [], _∷_, _++_}
+use mathlib.Core.List.{List, [], _++_}
 use lib.Dec.{eqb}
 use lib.ListN.{length, getD, replicate}
 use Rattle.laws.specs.Choice.{choose}
 use Rattle.model.specs.Limits.{LIST-ENTRIES, VERDICT-BYTES}
-use Rattle.model.specs.Made.{machineFrom, modelFrom}
 use Rattle.model.specs.declared.Model.{Model}
 use Rattle.views.specs.Judgement.{judgementOf}
 use Rattle.needs.specs.Answered.{neededOf, listOf}
@@ -14,7 +13,7 @@ use Rattle.needs.specs.declared.Outcome.{Outcome}
 use Rattle.needs.specs.declared.Outcome.the-variants.{Found, Refused}
 use Rattle.sheet.specs.declared.Answer.{Answer}
 use Rattle.sheet.specs.declared.Answer.the-variants as answers
-use Rattle.sheet.specs.Reading.{Reading, model, refusal, Parts, sheetText}
+use Rattle.sheet.specs.Reading.{Reading, modelOf, model, refusal, sheetText}
 use Rattle.zarpalume.specs.Lines.{refusedLine, viewsLine, needLines, depthLines, reachLine}
 
 -- the list that the needed-arrow call is lent
@@ -52,10 +51,6 @@ refusalOf (answers.Model states actions boxes start) = []
 abbrev pub LineSmall : Answer → Type 0
 LineSmall (answers.Refused number line) = line < 65536
 LineSmall (answers.Model states actions boxes start) = Unit {0}
-
--- the model that a sheet says
-abbrev pub modelOf : ℕ → ℕ → ℕ → ℕ → Parts → Model
-modelOf states actions boxes start p = modelFrom (machineFrom states actions boxes start (p .owners)) (p .ids) (p .drawn .arrows)
 
 -- one line for a refusal; else the verdict on the model
 abbrev pub said : Reading → List ℕ

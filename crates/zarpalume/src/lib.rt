@@ -9,9 +9,9 @@ use sheet::Answer;
 use views::Judgement;
 ghost use mathlib.Core.Path.{_≡_};
 ghost use mathlib.Core.List.{_++_};
-ghost use Prim.Native.Nat.{ℕ, _+_, _<_, _≤_};
-ghost use lib.ListN.{length, getD, replicate};
-ghost use Rattle.model.specs.Limits.{VERDICT-BYTES};
+ghost use Prim.Native.Nat.{_+_, _≤_};
+ghost use lib.ListN.{length, replicate};
+ghost use Rattle.model.specs.Limits.{BOXES, VERDICT-BYTES};
 ghost use Rattle.text.specs.Written.{Written};
 ghost use Rattle.zarpalume.specs.Lines.{viewsLine, Small, needLines, depthLines, reachLine};
 ghost use Rattle.zarpalume.specs.Verdict.{pairs, reached, Few, verdictOf, refusalOf, LineSmall, call, callOf};
@@ -53,7 +53,7 @@ fn put_lines(
     needs: Needs,
     list: &[u16; model::LIST_ENTRIES],
 ) -> usize
-    requires { ⌜ (length (now verdict) ≡ VERDICT-BYTES) × (model .machine .boxes ≤ 16) × Small judgement × Few needs ⌝ }
+    requires { ⌜ (length (now verdict) ≡ VERDICT-BYTES) × (model .machine .boxes ≤ BOXES) × Small judgement × Few needs ⌝ }
     ensures { λ r. ⌜ Written (now (verdict .entry)) (now (verdict .exit)) r (viewsLine (model .ids) (model .machine .owners) judgement ++ (needLines (model .ids) (now (list .entry)) (pairs (needs .outcome)) ++ (depthLines (model .ids) (needs .depths) (model .machine .boxes) ++ reachLine (reached (needs .outcome))))) × (r ≤ VERDICT-BYTES) ⌝ }
 {
     let ids = model.ids;
@@ -75,7 +75,7 @@ fn put_verdict(
     outputs: &[u16],
     views: &[u16],
 ) -> usize
-    requires { ⌜ (length (now verdict) ≡ VERDICT-BYTES) × (model .machine .boxes ≤ 16) ⌝ }
+    requires { ⌜ (length (now verdict) ≡ VERDICT-BYTES) × (model .machine .boxes ≤ BOXES) ⌝ }
     ensures { λ r. ⌜ Written (now (verdict .entry)) (now (verdict .exit)) r (verdictOf model (now (next .entry)) (now (outputs .entry)) (now (views .entry))) × (r ≤ VERDICT-BYTES) ⌝ }
 {
     let judgement = views::judge(model, next, outputs, views);

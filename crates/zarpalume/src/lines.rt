@@ -1,10 +1,10 @@
 // The writers of a verdict's lines, each into the rest of the buffer.
 use views::Judgement;
-ghost use mathlib.Core.Path.{_≡_};
 ghost use mathlib.Core.List.{[], _∷_, _++_};
 ghost use Prim.Native.Nat.{ℕ, _+_, _*_, _<_, _≤_};
 ghost use lib.ListN.{length, getD};
 ghost use Rattle.text.specs.Number.{decimal};
+ghost use Rattle.model.specs.Limits.{BOXES};
 ghost use Rattle.text.specs.Written.{Written};
 ghost use Rattle.zarpalume.specs.Lines.{tabbed, ended, brokenRespect, dashed, viewsLine, Small, needLines, depthLines, reachWords};
 
@@ -141,9 +141,9 @@ pub(crate) fn put_depths(
     depths: &[usize; model::BOXES],
     boxes: usize,
 ) -> usize
-    requires { ⌜ (boxes ≤ 16) × (28 * 16 ≤ length (now tail)) ⌝ }
+    requires { ⌜ (boxes ≤ BOXES) × (28 * BOXES ≤ length (now tail)) ⌝ }
     requires { ⌜ ((u : ℕ) → getD (now depths) u 0 < 65536) ⌝ }
-    ensures { λ r. ⌜ Written (now (tail .entry)) (now (tail .exit)) r (depthLines (now (ids .entry)) (now (depths .entry)) boxes) × (r ≤ 28 * 16) ⌝ }
+    ensures { λ r. ⌜ Written (now (tail .entry)) (now (tail .exit)) r (depthLines (now (ids .entry)) (now (depths .entry)) boxes) × (r ≤ 28 * BOXES) ⌝ }
 {
     let mut at = 0;
     'boxes: for u in 0..boxes {

@@ -19,7 +19,7 @@ sort-requires c κs =
     (q .0, subst (λ f. Known (machineOf (g .machine) (g .next .now) (g .outputs .now)) (flagAt f)) (sym (c .before .flags-of .ensures)) (q .1 .0))
 
 write-list-requires : tie.Need-write-list-requires
-write-list-requires c κs = let q = c .before .before .before .before .before .before .before .before .before .before .pre in (q .0 .machine .boxes-most, q .1 .1)
+write-list-requires c κs = let q = c .before .before .before .before .before .before .before .before .before .before .pre in (q .0 .good .machine .boxes-most, q .1 .1)
 
 count-requires : tie.Need-count-requires
 count-requires c κs = tt
@@ -31,7 +31,7 @@ returns : tie.Need-returns
 returns c =
     let q = c .before .before .before .before .before .before .before .before .before .before .before .before .before .before .pre in
     let g = c .before .before .before .before .before .before .before .before .before .before .before .before .before .before .args in
-    found-is (g .machine) (g .next .now) (g .outputs .now) (q .0) (g .reached) (q .1 .0) (c .before .before .before .before .before .before .before .before .before .before .flags-of .ensures) (c .before .before .before .before .before .before .before .before .sort .ensures) (c .before .before .before .write-list .ensures) (c .count .ensures)
+    found-is (g .machine) (g .next .now) (g .outputs .now) (q .0 .good) (g .reached) (q .1 .0) (c .before .before .before .before .before .before .before .before .before .before .flags-of .ensures) (c .before .before .before .before .before .before .before .before .sort .ensures) (c .before .before .before .write-list .ensures) (c .count .ensures)
 
 pub found-spec : {M : Type 1} → statement M
 found-spec =

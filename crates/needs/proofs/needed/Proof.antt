@@ -78,11 +78,12 @@ returns-4 c =
 found-requires : tie.Need-found-requires
 found-requires c κs =
     let g = c .before .before .before .before .before .before .before .before .before .before .before .before .before .before .before .args in
+    let a = c .before .before .before .before .before .before .before .before .before .before .before .if1 .left in
     let b = c .before .before .before .before .before .before .before .before .before .before .if2 .left in
     let d = c .before .before .before .before .before .before .before .before .before .if3 .left in
     let o = c .before .before .before .before .reached .ensures in
     let f = found-fits (g .machine) (g .next .now) d (sym (o .0) ∙ told-found _ (c .before .before .before .match .keys1)) in
-    (table-good (g .machine) (g .next .now) .0 f, (known-of (g .machine) (g .next .now) (g .outputs .now) _ d f (o .1), cleared (g .list .now) (c .before .before .before .before .before .before .before .clear .ensures) b))
+    (record { good = table-good (g .machine) (g .next .now) .0 f; next-long = d; outputs-long = a }, (known-of (g .machine) (g .next .now) (g .outputs .now) _ d f (o .1), cleared (g .list .now) (c .before .before .before .before .before .before .before .clear .ensures) b))
 
 same-length-2 : tie.Need-same-length-2
 same-length-2 c = search needs

@@ -27,7 +27,7 @@ observes-requires : tie.Need-observes-requires Inv-boxes μ-boxes
 observes-requires c κs = tt
 
 refine-requires : tie.Need-refine-requires Inv-boxes μ-boxes
-refine-requires c κs = let i = c .before .before .before .before .before .boxes .inv in (i .4 .good, (i .4 .known, i .3))
+refine-requires c κs = let i = c .before .before .before .before .before .boxes .inv in (i .4 .fits, (i .4 .known, i .3))
 
 mul-depths : tie.Need-mul-depths Inv-boxes μ-boxes
 mul-depths c = let i = c .before .before .before .before .before .before .boxes .inv in omega (arith, box-small (i .4))
@@ -38,7 +38,7 @@ array-write-depths c = let i = c .before .before .before .before .before .before
 mark-requires : tie.Need-mark-requires Inv-boxes μ-boxes
 mark-requires c κs =
     let i = c .before .before .before .before .before .before .before .before .before .before .boxes .inv in
-    (steps (i .4 .good), (owners-in (i .4) (i .0), (omega (arith, box-small (i .4)), i .4 .sorted .table-long)))
+    (steps (i .4 .fits), (owners-in (i .4) (i .0), (omega (arith, box-small (i .4)), i .4 .sorted .table-long)))
 
 add-u : tie.Need-add-u Inv-boxes μ-boxes
 add-u c = let i = c .before .before .before .before .before .before .before .before .before .before .before .boxes .inv in omega (arith, box-small (i .4))

@@ -3,9 +3,6 @@ use borrow.Author.Needs.{needs}
 use Rattle.purge.proofs.Told.{added-plain, added-intransitive}
 use Rattle.purge.proofs.added.Statement.{statement}
 use Rattle.purge.proofs.added.Tie as tie
-use Rattle.purge.proofs.added.Reads as reads
-use Rattle.purge.proofs.added.Lts as lts
-use Rattle.purge.proofs.all_interferers.Reads as all-interferers-reads
 
 enum-told : tie.Need-enum-told
 enum-told c = search needs

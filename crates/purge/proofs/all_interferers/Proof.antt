@@ -1,5 +1,5 @@
 -- `purge::all_interferers` meets its contract: the sets below u are written. Assumes nothing.
-use mathlib.Core.Path.{_≡_, refl, _∙_}
+use mathlib.Core.Path.{_≡_, refl}
 use mathlib.Core.Bool.{false}
 use Prim.Native.Nat.{_+_, _-_, _*_, _≤_}
 use native.Mathlib.Omega.{arith}
@@ -10,9 +10,6 @@ use Rattle.laws.proofs.Filled.{filled-none, filled-more, filled-all}
 use Rattle.purge.specs.Sets.{pack}
 use Rattle.purge.proofs.all_interferers.Statement.{statement}
 use Rattle.purge.proofs.all_interferers.Tie as tie
-use Rattle.purge.proofs.all_interferers.Reads as reads
-use Rattle.purge.proofs.all_interferers.Lts as lts
-use Rattle.purge.proofs.interferers.Reads as interferers-reads
 
 abbrev Inv-boxes : tie.InvT-boxes
 Inv-boxes arrows sets₀ u₀ sets u =

@@ -5,8 +5,6 @@ use Rattle.purge.specs.Sets.{has}
 use Rattle.purge.proofs.Sets.{has-beyond}
 use Rattle.purge.proofs.contains.Statement.{statement}
 use Rattle.purge.proofs.contains.Tie as tie
-use Rattle.purge.proofs.contains.Reads as reads
-use Rattle.purge.proofs.contains.Lts as lts
 
 cast-result : tie.Need-cast-result
 cast-result c = search needs

@@ -6,8 +6,6 @@ use borrow.Author.Needs.{needs}
 use Rattle.purge.proofs.Gathered.{Gathered, gathered-start, gathered-length, gathered-below, gathered-kept, gathered-dropped, gathered-end}
 use Rattle.purge.proofs.gather.Statement.{statement}
 use Rattle.purge.proofs.gather.Tie as tie
-use Rattle.purge.proofs.gather.Reads as reads
-use Rattle.purge.proofs.gather.Lts as lts
 
 abbrev Inv-actions : tie.InvT-actions
 Inv-actions kept₀ count₀ i₀ i-end kept count i = Gathered kept₀ i count kept

@@ -1,5 +1,5 @@
 -- `purge::interferers` meets its contract: the set holds the boxes from v on. Assumes nothing.
-use mathlib.Core.Path.{_≡_, refl}
+use mathlib.Core.Path.{_≡_}
 use mathlib.Core.Bool.{false}
 use Prim.Native.Nat.{_+_, _-_, _*_, _≤_}
 use native.Mathlib.Omega.{arith}
@@ -9,9 +9,6 @@ use Rattle.purge.specs.Sets.{pack}
 use Rattle.purge.proofs.Sets.{pack-fits, pack-more, pack-end}
 use Rattle.purge.proofs.interferers.Statement.{statement}
 use Rattle.purge.proofs.interferers.Tie as tie
-use Rattle.purge.proofs.interferers.Reads as reads
-use Rattle.purge.proofs.interferers.Lts as lts
-use Rattle.purge.proofs.bit.Reads as bit-reads
 
 abbrev Inv-boxes : tie.InvT-boxes
 Inv-boxes arrows u set₀ v₀ set v = (v ≤ 16) × (set ≡ pack (λ w. getD arrows (w * 16 + u) false) v (16 - v))

@@ -3,12 +3,6 @@ use borrow.Author.Needs.{needs}
 use Rattle.purge.proofs.Written.{box-small, kept-written}
 use Rattle.purge.proofs.keep.Statement.{statement}
 use Rattle.purge.proofs.keep.Tie as tie
-use Rattle.purge.proofs.keep.Reads as reads
-use Rattle.purge.proofs.keep.Lts as lts
-use Rattle.purge.proofs.added.Reads as added-reads
-use Rattle.purge.proofs.gather.Reads as gather-reads
-use Rattle.purge.proofs.interferers.Reads as interferers-reads
-use Rattle.purge.proofs.mark.Reads as mark-reads
 
 added-requires : tie.Need-added-requires
 added-requires c κs = search needs

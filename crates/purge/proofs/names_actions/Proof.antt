@@ -1,18 +1,13 @@
 -- `purge::names_actions` meets its contract. Assumes nothing.
 use Prim.Native.Nat.{_≤_, _-_}
-use native.Mathlib.Omega.{arith}
 use lib.Dec.{ltb}
 use lib.ListN.{getD}
 use borrow.Author.Needs.{needs}
 use Rattle.laws.specs.Range.{Held}
-use Rattle.laws.proofs.Range.{held-more}
-use Rattle.laws.proofs.Loops.{read-lt, each}
+use Rattle.laws.proofs.Loops.{each}
 use Rattle.purge.specs.Purged.{namesActions}
 use Rattle.purge.proofs.names_actions.Statement.{statement}
 use Rattle.purge.proofs.names_actions.Tie as tie
-use Rattle.purge.proofs.names_actions.Reads as reads
-use Rattle.purge.proofs.names_actions.Lts as lts
-use Rattle.purge.proofs.wide.Reads as wide-reads
 
 abbrev Inv-run : tie.InvT-run
 Inv-run run actions i₀ i-end i = (i ≤ i-end) × Held i (λ i. ltb (getD run i 0) actions)

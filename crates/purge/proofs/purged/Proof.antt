@@ -4,11 +4,6 @@ use Rattle.purge.specs.Purged.{purgedOf, asked}
 use Rattle.purge.proofs.Answers.{answers, askable}
 use Rattle.purge.proofs.purged.Statement.{statement}
 use Rattle.purge.proofs.purged.Tie as tie
-use Rattle.purge.proofs.purged.Reads as reads
-use Rattle.purge.proofs.purged.Lts as lts
-use Rattle.model.proofs.model_fits.Reads as model-fits-reads
-use Rattle.purge.proofs.keep.Reads as keep-reads
-use Rattle.purge.proofs.names_actions.Reads as names-actions-reads
 
 returns : tie.Need-returns
 unfolding purgedOf asked

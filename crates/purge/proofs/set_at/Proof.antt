@@ -2,8 +2,6 @@ use borrow.Author.Needs.{needs}
 use Rattle.laws.proofs.Cells.{beyond}
 use Rattle.purge.proofs.set_at.Statement.{statement}
 use Rattle.purge.proofs.set_at.Tie as tie
-use Rattle.purge.proofs.set_at.Reads as reads
-use Rattle.purge.proofs.set_at.Lts as lts
 
 mul-result : tie.Need-mul-result
 mul-result c = search needs

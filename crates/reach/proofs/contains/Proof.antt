@@ -8,8 +8,6 @@ use borrow.Author.Needs.{needs}
 use Rattle.laws.proofs.Cells.{beyond}
 use Rattle.reach.proofs.contains.Statement.{statement}
 use Rattle.reach.proofs.contains.Tie as tie
-use Rattle.reach.proofs.contains.Reads as reads
-use Rattle.reach.proofs.contains.Lts as lts
 
 element-copy-out-result : tie.Need-element-copy-out-result
 element-copy-out-result c = search needs

@@ -8,11 +8,9 @@ use Rattle.laws.specs.Range.{count}
 use Rattle.laws.proofs.Count.{count-le}
 use Rattle.model.specs.Limits.{STATES}
 use Rattle.reach.specs.Set.{has}
-use Rattle.reach.proofs.Tables.{count-begun, count-yes, count-no}
+use Rattle.laws.proofs.Tables.{count-begun, count-yes, count-no}
 use Rattle.reach.proofs.count.Statement.{statement}
 use Rattle.reach.proofs.count.Tie as tie
-use Rattle.reach.proofs.count.Reads as reads
-use Rattle.reach.proofs.count.Lts as lts
 
 abbrev Inv-states : tie.InvT-states
 Inv-states set n₀ s₀ n s = (s ≤ STATES) × (n ≡ count s (has set))

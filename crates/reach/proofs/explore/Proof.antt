@@ -9,9 +9,6 @@ use Rattle.reach.specs.Explored.{Explored}
 use Rattle.reach.proofs.Worklist.{entered-most, explored-start, complete}
 use Rattle.reach.proofs.explore.Statement.{statement}
 use Rattle.reach.proofs.explore.Tie as tie
-use Rattle.reach.proofs.explore.Reads as reads
-use Rattle.reach.proofs.explore.Lts as lts
-use Rattle.reach.proofs.look.Reads as look-reads
 
 abbrev Inv-work : tie.InvT-work
 Inv-work machine next start flags₀ work₀ done₀ entered₀ flags work done entered = GoodTable machine next × Explored machine next flags work done entered

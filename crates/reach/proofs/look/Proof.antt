@@ -8,9 +8,6 @@ use Rattle.model.specs.Good.{GoodTable}
 use Rattle.reach.proofs.Worklist.{Looking, entered-most, looking, next-cell, next-row, next-small, room, known, entered, looked-at}
 use Rattle.reach.proofs.look.Statement.{statement}
 use Rattle.reach.proofs.look.Tie as tie
-use Rattle.reach.proofs.look.Reads as reads
-use Rattle.reach.proofs.look.Lts as lts
-use Rattle.model.proofs.at.Reads as at-reads
 
 abbrev Inv-actions : tie.InvT-actions
 Inv-actions machine next flags₀ work₀ done entered s n₀ a₀ a-end flags work n a =

@@ -5,8 +5,6 @@ use borrow.Author.Needs.{needs}
 use Rattle.laws.proofs.Copied.{Copied, copied-none, copied-more, copied-length, copied-all}
 use Rattle.register.proofs.lay.Statement.{statement}
 use Rattle.register.proofs.lay.Tie as tie
-use Rattle.register.proofs.lay.Reads as reads
-use Rattle.register.proofs.lay.Lts as lts
 
 abbrev Inv-entries : tie.InvT-entries
 Inv-entries entries table₀ i₀ i-end table i = Copied entries table₀ i table

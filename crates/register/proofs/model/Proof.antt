@@ -5,10 +5,6 @@ use Rattle.model.specs.Made.{modelFrom}
 use Rattle.register.specs.Tables.{selves, draws}
 use Rattle.register.proofs.model.Statement.{statement}
 use Rattle.register.proofs.model.Tie as tie
-use Rattle.register.proofs.model.Reads as reads
-use Rattle.register.proofs.model.Lts as lts
-use Rattle.model.proofs.Model.new.Reads as new-reads
-use Rattle.register.proofs.machine.Reads as machine-reads
 
 array-write-ids : tie.Need-array-write-ids
 array-write-ids c = search needs

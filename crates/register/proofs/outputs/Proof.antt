@@ -3,9 +3,6 @@ use borrow.Author.Needs.{needs}
 use Rattle.register.specs.Tables.{byState, column}
 use Rattle.register.proofs.outputs.Statement.{statement}
 use Rattle.register.proofs.outputs.Tie as tie
-use Rattle.register.proofs.outputs.Reads as reads
-use Rattle.register.proofs.outputs.Lts as lts
-use Rattle.register.proofs.lay.Reads as lay-reads
 
 slice-aggregate-lay : tie.Need-slice-aggregate-lay
 slice-aggregate-lay c = search needs

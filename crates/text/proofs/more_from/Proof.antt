@@ -1,37 +1,30 @@
 -- `text::more_from` meets its contract: what is left to read from `i` on says the same as what was from `at` on. Assumes nothing.
-use Prim.Native.Nat.{_-_}
+use Prim.Native.Nat.{ℕ, _-_, _<_}
 use mathlib.Core.Path.{_≡_, refl, sym, _∙_}
+use mathlib.Core.List.{List}
 use native.Mathlib.Omega.{arith}
 use lib.ListN.{length}
 use Rattle.text.specs.Lines.{moreFrom}
-use Rattle.text.proofs.Digits.{more-over, more-here, more-zero, more-bad, more-good}
+use Rattle.text.proofs.Digits.{digit-no-tab, digit-some, more-over, more-here, more-bad, more-good}
 use borrow.Author.Needs.{needs}
 use Rattle.text.proofs.more_from.Statement.{statement}
 use Rattle.text.proofs.more_from.Tie as tie
 
+record Left (limit : ℕ) (line : List ℕ) (at first i value : ℕ) : Type 0 where
+  some : 0 < value
+  says : moreFrom limit line i value ≡ moreFrom limit line at first
+
 abbrev Inv-loop : tie.InvT-loop
-Inv-loop line at limit first value₀ i₀ value i = moreFrom limit line i value ≡ moreFrom limit line at first
+Inv-loop line at limit first value₀ i₀ value i = Left limit line at first i value
 
 abbrev μ-loop : tie.MeasureT-loop
 μ-loop line at limit first value₀ i₀ value i = length line - i
 
 loop-holds : tie.Need-loop-holds Inv-loop μ-loop
-loop-holds c = refl
+loop-holds c = record { some = c .before .pre; says = refl }
 
-shared-slice-read-if1 : tie.Need-shared-slice-read-if1 Inv-loop μ-loop
-shared-slice-read-if1 c = search needs
-
-returns : tie.Need-returns Inv-loop μ-loop
-returns c = more-here _ _ _ (omega arith) _ (c .if1 .taken) ∙ c .before .before .before .loop .inv
-
-find-requires : tie.Need-find-requires Inv-loop μ-loop
-find-requires c κs = search needs
-
-returns-2 : tie.Need-returns-2 Inv-loop μ-loop
-returns-2 c = rw (c .find .ensures) (more-zero _ _ _ (omega arith) (c .before .before .if1 .left) _ (c .before .if2 .taken) ∙ c .before .before .before .before .before .loop .inv)
-
-shared-slice-read-grown : tie.Need-shared-slice-read-grown Inv-loop μ-loop
-shared-slice-read-grown c = search needs
+shared-slice-read-byte : tie.Need-shared-slice-read-byte Inv-loop μ-loop
+shared-slice-read-byte c = search needs
 
 grown-requires : tie.Need-grown-requires Inv-loop μ-loop
 grown-requires c κs = search needs
@@ -42,11 +35,14 @@ enum-known-v c = search needs
 enum-told : tie.Need-enum-told Inv-loop μ-loop
 enum-told c = search needs
 
-find-requires-2 : tie.Need-find-requires-2 Inv-loop μ-loop
-find-requires-2 c κs = search needs
+returns : tie.Need-returns Inv-loop μ-loop
+returns c = more-here _ _ _ (omega arith) _ (c .if1 .taken) ∙ c .before .before .before .before .before .before .loop .inv .says
 
-returns-3 : tie.Need-returns-3 Inv-loop μ-loop
-returns-3 c = rw (c .find2 .ensures) (more-bad _ _ _ (omega arith) (c .before .before .before .before .before .before .if1 .left) _ (c .before .before .before .before .before .if2 .left) (sym (c .before .before .before .grown .ensures) ∙ c .before .enum-told .given .1) ∙ c .before .before .before .before .before .before .before .before .before .loop .inv)
+find-requires : tie.Need-find-requires Inv-loop μ-loop
+find-requires c κs = search needs
+
+returns-2 : tie.Need-returns-2 Inv-loop μ-loop
+returns-2 c = rw (c .find .ensures) (more-bad _ _ _ (omega arith) (c .before .if1 .left) _ (λ z. let p = c .before .before .before .before .before .before .before .loop .inv .some in omega arith) (sym (c .before .before .before .before .grown .ensures) ∙ c .before .before .enum-told .given .1) ∙ c .before .before .before .before .before .before .before .loop .inv .says)
 
 add-i : tie.Need-add-i Inv-loop μ-loop
 add-i c = search needs
@@ -55,10 +51,10 @@ loop-less : tie.Need-loop-less Inv-loop μ-loop
 loop-less c = search needs
 
 loop-again : tie.Need-loop-again Inv-loop μ-loop
-loop-again c = more-good _ _ _ (omega arith) (c .before .before .before .before .before .before .if1 .left) _ _ (c .before .before .before .before .before .if2 .left) (sym (c .before .before .before .grown .ensures) ∙ c .before .v .given .1) ∙ c .before .before .before .before .before .before .before .before .before .loop .inv
+loop-again c = let g = sym (c .before .before .before .grown .ensures) ∙ c .before .v .given .1 in let l = c .before .before .before .before .before .before .loop .inv in record { some = digit-some _ _ _ _ g (l .some); says = more-good _ _ _ (omega arith) (digit-no-tab _ _ _ _ g) _ _ (λ z. let p = l .some in omega arith) g ∙ l .says }
 
-returns-4 : tie.Need-returns-4 Inv-loop μ-loop
-returns-4 c = more-over _ _ _ _ (omega arith) ∙ c .before .loop .inv
+returns-3 : tie.Need-returns-3 Inv-loop μ-loop
+returns-3 c = more-over _ _ _ _ (omega arith) ∙ c .before .loop .inv .says
 
 pub more-from-spec : {M : Type 1} → statement M
 more-from-spec =
@@ -67,17 +63,14 @@ more-from-spec =
     Inv-loop
     μ-loop
     loop-holds
-    shared-slice-read-if1
-    returns
-    find-requires
-    returns-2
-    shared-slice-read-grown
+    shared-slice-read-byte
     grown-requires
     enum-known-v
     enum-told
-    find-requires-2
-    returns-3
+    returns
+    find-requires
+    returns-2
     add-i
     loop-less
     loop-again
-    returns-4)
+    returns-3)

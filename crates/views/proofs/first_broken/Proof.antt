@@ -1,6 +1,7 @@
 -- `views::first_broken` meets its contract. Assumes nothing.
 -- Here `c3` is the place three before `c`.
 use mathlib.Core.Path.{_∙_}
+use Rattle.views.proofs.Calm.{nexts}
 use Rattle.noninterference.specs.Judged.{judged}
 use Rattle.views.specs.Judgement.{firstBroken}
 use Rattle.views.proofs.Flags.{first-decides, first-passes}
@@ -27,8 +28,17 @@ returns c =
     first-decides _ _ (c .before .first-output .ensures ∙ output-free (k .model .machine) (k .next .now) (k .outputs .now) (k .views .now))
     (told-other _ (c .match .keys2))
 
+idles-requires : tie.Need-idles-requires
+idles-requires c κs =
+    let c10 = c .before .before .before .before .before .before .before .before .before .before in
+    nexts (c10 .pre .0 .0) (c10 .pre .1)
+
 first-respect-requires : tie.Need-first-respect-requires
-first-respect-requires c κs = search needs
+first-respect-requires c κs =
+    let c2 = c .before .before in
+    let c8 = c2 .before .before .before .before .before .before in
+    let c13 = c8 .before .before .before .before .before in
+    (c13 .pre .0 .0, (c13 .pre .1, (c8 .lows .ensures, c2 .idles .ensures)))
 
 enum-told-2 : tie.Need-enum-told-2
 enum-told-2 c = search needs
@@ -36,29 +46,40 @@ enum-told-2 c = search needs
 returns-2 : tie.Need-returns-2
 unfolding firstBroken judged
 returns-2 c =
-    let c3 = c .before .before .before in
-    let c4 = c3 .before in
-    let c11 = c4 .before .before .before .before .before .before .before in
-    let k = c11 .args in
-    first-passes _ _ (c4 .first-output .ensures ∙ output-free (k .model .machine) (k .next .now) (k .outputs .now) (k .views .now)) (told-accepted _
-    (c3 .match .keys1)) (first-decides _ _ (c .before .first-respect .ensures ∙ respect-free (k .model) (k .next .now) (k .outputs .now)
+    let c7 = c .before .before .before .before .before .before .before in
+    let c8 = c7 .before in
+    let c15 = c8 .before .before .before .before .before .before .before in
+    let k = c15 .args in
+    first-passes _ _ (c8 .first-output .ensures ∙ output-free (k .model .machine) (k .next .now) (k .outputs .now) (k .views .now)) (told-accepted _
+    (c7 .match .keys1)) (first-decides _ _ (c .before .first-respect .ensures .1 ∙ respect-free (k .model) (k .next .now) (k .outputs .now)
     (k .views .now)) (told-other _ (c .match2 .keys2)))
 
+alones-requires : tie.Need-alones-requires
+alones-requires c κs =
+    let c17 = c .before .before .before .before .before .before .before .before .before .before .before .before .before .before .before .before .before in
+    let g = c17 .pre .1 .machine in
+    (g .states-most, g .boxes-most)
+
 first-step-requires : tie.Need-first-step-requires
-first-step-requires c κs = search needs
+first-step-requires c κs =
+    let c3 = c .before .before .before in
+    let c7 = c3 .before .before .before .before in
+    let c16 = c7 .before .before .before .before .before .before .before .before .before in
+    let c21 = c16 .before .before .before .before .before in
+    (c21 .pre .0 .0, (c21 .pre .1, (c16 .lows .ensures, (c7 .first-respect .ensures .0, c3 .alones .ensures))))
 
 returns-3 : tie.Need-returns-3
 unfolding firstBroken judged
 returns-3 c =
-    let c3 = c .before .before .before in
-    let c4 = c3 .before in
-    let c6 = c4 .before .before in
-    let c7 = c6 .before in
-    let c14 = c7 .before .before .before .before .before .before .before in
-    let k = c14 .args in
-    first-passes _ _ (c7 .first-output .ensures ∙ output-free (k .model .machine) (k .next .now) (k .outputs .now) (k .views .now)) (told-accepted _
-    (c6 .match .keys1)) (first-passes _ _ (c4 .first-respect .ensures ∙ respect-free (k .model) (k .next .now) (k .outputs .now) (k .views .now))
-    (told-accepted _ (c3 .match2 .keys1)) (c .first-step .ensures ∙ step-free (k .model .machine) (k .next .now) (k .outputs .now) (k .views .now)))
+    let c7 = c .before .before .before .before .before .before .before in
+    let c8 = c7 .before in
+    let c14 = c8 .before .before .before .before .before .before in
+    let c15 = c14 .before in
+    let c22 = c15 .before .before .before .before .before .before .before in
+    let k = c22 .args in
+    first-passes _ _ (c15 .first-output .ensures ∙ output-free (k .model .machine) (k .next .now) (k .outputs .now) (k .views .now)) (told-accepted _
+    (c14 .match .keys1)) (first-passes _ _ (c8 .first-respect .ensures .1 ∙ respect-free (k .model) (k .next .now) (k .outputs .now) (k .views .now))
+    (told-accepted _ (c7 .match2 .keys1)) (c .first-step .ensures ∙ step-free (k .model .machine) (k .next .now) (k .outputs .now) (k .views .now)))
 
 pub first-broken-spec : {M : Type 1} → statement M
 first-broken-spec =
@@ -68,8 +89,10 @@ first-broken-spec =
     first-output-requires
     enum-told
     returns
+    idles-requires
     first-respect-requires
     enum-told-2
     returns-2
+    alones-requires
     first-step-requires
     returns-3)

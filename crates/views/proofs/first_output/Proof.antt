@@ -8,9 +8,9 @@ use native.Mathlib.Omega.{arith}
 use borrow.Author.Needs.{needs}
 use Rattle.laws.specs.Search.{Passed}
 use Rattle.laws.proofs.Tests.{told}
-use Rattle.laws.proofs.Search.{sweep, passed-more, firstOf-none, firstOf-hit, when-rest, when-no}
+use Rattle.laws.proofs.Search.{sweep, passed-more, firstOf-none, firstOf-hit, when-rest, when-no, when-hit, pair-hit, pairs-passed}
 use Rattle.views.specs.declared.Judgement.the-variants.{Accepted}
-use Rattle.views.proofs.Flags.{when-hit, pair-hit, pairs-passed, owner-in, owner-small, answer-none, answer-output}
+use Rattle.views.proofs.Flags.{owner-in, owner-small, answer-none, answer-output}
 use Rattle.views.proofs.Calm.{lows-low, quiet-none}
 use Rattle.views.proofs.Searches.{outputAt, outputFrom, outputOf, output-is}
 use Rattle.views.proofs.first_output.Statement.{statement}
@@ -47,9 +47,9 @@ quiet-requires : tie.Need-quiet-requires Inv-seconds μ-seconds Inv-firsts μ-fi
 quiet-requires c κs =
     let c2 = c .before .before in
     let c7 = c2 .before .before .before .before .before in
-    let g = c7 .pre .0 in
+    let g = c7 .pre .1 .0 in
     let l = c2 .actions-test .taken in
-    (lows-low (c7 .pre .1) (owner-in g l (c .owner .ensures)), (g .states-most, g .actions-most, owner-small g l (c .owner .ensures), l))
+    (c7 .pre .0, (lows-low (c7 .pre .1 .1) (owner-in g l (c .owner .ensures)), (g .states-most, g .actions-most, owner-small g l (c .owner .ensures), l)))
 
 add-a : tie.Need-add-a Inv-seconds μ-seconds Inv-firsts μ-firsts Inv-actions μ-actions
 add-a c = omega arith
@@ -65,7 +65,7 @@ actions-again c =
     let c9 = c5 .before .before .before .before in (
       omega arith,
       c5 .actions .inv .1,
-      passed-more _ _ (c5 .actions .inv .2) (quiet-none _ (c9 .pre .0) (c9 .pre .1) (c4 .actions-test .taken)
+      passed-more _ _ (c5 .actions .inv .2) (quiet-none _ (c9 .pre .1 .0) (c9 .pre .1 .1) (c4 .actions-test .taken)
           (c2 .owner .ensures) (told _ _ (c .before .quiet .ensures) (c .if1 .taken))),
     )
 
@@ -84,7 +84,7 @@ leaks-requires c κs =
     let c6 = c2 .before .before .before .before in
     let c8 = c6 .before .before in
     let c13 = c8 .before .before .before .before .before in
-    let g = c13 .pre .0 in (
+    let g = c13 .pre .1 .0 in (
       g .states-most,
       g .actions-most,
       owner-small g (c8 .actions-test .taken)

@@ -9,48 +9,47 @@ use native.Mathlib.Nat.{lt-of-lt-of-le}
 use borrow.Author.Needs.{needs}
 use Rattle.laws.specs.Search.{Passed}
 use Rattle.laws.proofs.Tests.{told}
-use Rattle.laws.proofs.Search.{sweep, passed-more, firstOf-none, firstOf-hit, when-rest, when-no, passed-none}
+use Rattle.laws.proofs.Search.{sweep, passed-more, firstOf-none, firstOf-hit, when-rest, when-no, passed-none, when-hit, pair-hit, pairs-passed}
 use Rattle.views.specs.declared.Judgement.the-variants.{Accepted}
 use lib.ListN.{length, length-replicate}
 use Rattle.views.specs.Guards.{SPOTS}
-use Rattle.views.proofs.Flags.{when-hit, pair-hit, pairs-passed, owner-small, answer-none, answer-step}
+use Rattle.views.proofs.Flags.{owner-small, answer-none, answer-step}
 use Rattle.views.proofs.Calm.{nexts, lows-low, alone-none, calm-none}
 use Rattle.views.proofs.Searches.{stepAt, stepFrom, stepUnder, stepOf, step-is}
 use Rattle.views.proofs.first_step.Statement.{statement}
 use Rattle.views.proofs.first_step.Tie as tie
 
 abbrev Inv-seconds : tie.InvT-seconds
-Inv-seconds next views low states actions boxes owners found₀ table u a o s t₀ found t = (t ≤ states) × (s < t) × (found ≡ Accepted) × Passed t (stepAt states actions owners next views u a s)
+Inv-seconds next views low kept alones states actions boxes owners found₀ table u a o s t₀ found t = (t ≤ states) × (s < t) × (found ≡ Accepted) × Passed t (stepAt states actions owners next views u a s)
 
 abbrev μ-seconds : tie.MeasureT-seconds
-μ-seconds next views low states actions boxes owners found₀ table u a o s t₀ found t = states - t
+μ-seconds next views low kept alones states actions boxes owners found₀ table u a o s t₀ found t = states - t
 
 abbrev Inv-firsts : tie.InvT-firsts
-Inv-firsts next views low states actions boxes owners found₀ table u a o s₀ found s = (s ≤ states) × (found ≡ Accepted) × Passed s (stepFrom states actions owners next views u a)
+Inv-firsts next views low kept alones states actions boxes owners found₀ table u a o s₀ found s = (s ≤ states) × (found ≡ Accepted) × Passed s (stepFrom states actions owners next views u a)
 
 abbrev μ-firsts : tie.MeasureT-firsts
-μ-firsts next views low states actions boxes owners found₀ table u a o s₀ found s = states - s
+μ-firsts next views low kept alones states actions boxes owners found₀ table u a o s₀ found s = states - s
 
 abbrev Inv-actions : tie.InvT-actions
-Inv-actions next views low states actions boxes owners found₀ table₀ u a₀ found table a = (a ≤ actions) × (found ≡ Accepted) × Passed a (stepUnder states actions owners next views u) × (length table ≡ SPOTS)
+Inv-actions next views low kept alones states actions boxes owners found₀ table₀ u a₀ found table a = (a ≤ actions) × (found ≡ Accepted) × Passed a (stepUnder states actions owners next views u) × (length table ≡ SPOTS)
 
 abbrev μ-actions : tie.MeasureT-actions
-μ-actions next views low states actions boxes owners found₀ table₀ u a₀ found table a = actions - a
+μ-actions next views low kept alones states actions boxes owners found₀ table₀ u a₀ found table a = actions - a
 
 abbrev Inv-boxes : tie.InvT-boxes
-Inv-boxes next views low states actions boxes owners found₀ table₀ u₀ found table u = (u ≤ boxes) × (found ≡ Accepted) × Passed u (stepOf states actions owners next views) × (length table ≡ SPOTS)
+Inv-boxes next views low kept alones states actions boxes owners found₀ table₀ u₀ found table u = (u ≤ boxes) × (found ≡ Accepted) × Passed u (stepOf states actions owners next views) × (length table ≡ SPOTS)
 
 abbrev μ-boxes : tie.MeasureT-boxes
-μ-boxes next views low states actions boxes owners found₀ table₀ u₀ found table u = boxes - u
+μ-boxes next views low kept alones states actions boxes owners found₀ table₀ u₀ found table u = boxes - u
 
 boxes-holds : tie.Need-boxes-holds Inv-seconds μ-seconds Inv-firsts μ-firsts Inv-actions μ-actions Inv-boxes μ-boxes
 boxes-holds c = (omega arith, refl, passed-none _, length-replicate {A = ℕ} SPOTS 0)
 
-alone-requires : tie.Need-alone-requires Inv-seconds μ-seconds Inv-firsts μ-firsts Inv-actions μ-actions Inv-boxes μ-boxes
-alone-requires c κs =
+is-alone-requires : tie.Need-is-alone-requires Inv-seconds μ-seconds Inv-firsts μ-firsts Inv-actions μ-actions Inv-boxes μ-boxes
+is-alone-requires c κs =
     let c5 = c .before .before .before .before .before in
-    let g = c5 .pre .0 .machine in
-    (g .states-most, lt-of-lt-of-le (c .boxes-test .taken) (g .boxes-most))
+    lt-of-lt-of-le (c .boxes-test .taken) (c5 .pre .1 .0 .machine .boxes-most)
 
 add-u : tie.Need-add-u Inv-seconds μ-seconds Inv-firsts μ-firsts Inv-actions μ-actions Inv-boxes μ-boxes
 add-u c = omega arith
@@ -65,8 +64,8 @@ boxes-again c =
     let c7 = c3 .before .before .before .before in (
       omega arith,
       c3 .boxes .inv .1,
-      passed-more _ _ (c3 .boxes .inv .2) (alone-none (c7 .pre .0) (c7 .pre .1) (c2 .boxes-test .taken) (told _ _
-          (c .before .alone .ensures) (c .if1 .taken))),
+      passed-more _ _ (c3 .boxes .inv .2) (alone-none (c7 .pre .1 .0) (c7 .pre .1 .1 .0) (c2 .boxes-test .taken)
+          (c7 .pre .1 .1 .1 .1 .alone _ (told _ _ (c .before .is-alone .ensures) (c .if1 .taken)))),
       c3 .boxes .inv .3,
     )
 
@@ -85,21 +84,27 @@ settled-requires c κs =
     let c4 = c3 .before in
     let c7 = c4 .before .before .before in
     let c12 = c7 .before .before .before .before .before in
-    let g = c12 .pre .0 in
-    let w = c12 .pre .1 in
+    let g = c12 .pre .1 .0 in
+    let w = c12 .pre .1 .1 .0 in
     let l = c7 .boxes-test .taken in (
       c4 .actions .inv .3,
       (
-        nexts g,
+        nexts (c12 .pre .0) g,
         (
           w .small,
           (
             lows-low w l,
             (
-              lt-of-lt-of-le l (g .machine .boxes-most),
-              owner-small (g .machine)
-                  (c3 .actions-test .taken) (c .before .owner .ensures),
-              c3 .actions-test .taken,
+              c12 .pre .1 .1 .1 .0,
+              (
+                c12 .pre .1 .1 .1 .1,
+                (
+                  lt-of-lt-of-le l (g .machine .boxes-most),
+                  owner-small (g .machine)
+                      (c3 .actions-test .taken) (c .before .owner .ensures),
+                  c3 .actions-test .taken,
+                ),
+              ),
             ),
           ),
         ),
@@ -121,7 +126,7 @@ actions-again c =
     let c14 = c9 .before .before .before .before .before in (
       omega arith,
       c6 .actions .inv .1,
-      passed-more _ _ (c6 .actions .inv .2) (calm-none (c14 .pre .0) (c14 .pre .1) (c9 .boxes-test .taken)
+      passed-more _ _ (c6 .actions .inv .2) (calm-none (c14 .pre .1 .0) (c14 .pre .1 .1 .0) (c9 .boxes-test .taken)
           (c5 .actions-test .taken) (c3 .owner .ensures) (c .before .settled .ensures .1 (c .if2 .taken))),
       c .before .settled .ensures .0,
     )
@@ -142,7 +147,7 @@ tears-requires c κs =
     let c9 = c7 .before .before in
     let c13 = c9 .before .before .before .before in
     let c18 = c13 .before .before .before .before .before in
-    let g = c18 .pre .0 in (
+    let g = c18 .pre .1 .0 in (
       (
         g .machine .states-most,
         g .machine .actions-most,
@@ -161,7 +166,9 @@ tears-requires c κs =
     )
 
 add-t-2 : tie.Need-add-t-2 Inv-seconds μ-seconds Inv-firsts μ-firsts Inv-actions μ-actions Inv-boxes μ-boxes
-add-t-2 c = omega arith
+add-t-2 c =
+    let c20 = c .before .before .before .before .before .before .before .before .before .before .before .before .before .before .before .before .before .before .before .before in
+    omega (arith, c20 .pre .1 .0 .machine .states-most)
 
 seconds-less : tie.Need-seconds-less Inv-seconds μ-seconds Inv-firsts μ-firsts Inv-actions μ-actions Inv-boxes μ-boxes
 seconds-less c = omega arith
@@ -257,7 +264,7 @@ first-step-spec =
     Inv-boxes
     μ-boxes
     boxes-holds
-    alone-requires
+    is-alone-requires
     add-u
     boxes-less
     boxes-again

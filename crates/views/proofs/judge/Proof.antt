@@ -34,7 +34,10 @@ model-table-fits-requires : tie.Need-model-table-fits-requires
 model-table-fits-requires c κs = search needs
 
 first-broken-requires : tie.Need-first-broken-requires
-first-broken-requires c κs = model-table-good _ _ .0 (told _ _ (c .before .model-table-fits .ensures) (c .if4 .taken)) .0
+first-broken-requires c κs =
+    let c3 = c .before .before .before in
+    let c4 = c3 .before in
+    ((c4 .if1 .left, c3 .if2 .left), model-table-good _ _ .0 (told _ _ (c .before .model-table-fits .ensures) (c .if4 .taken)) .0)
 
 returns-4 : tie.Need-returns-4
 unfolding judgementOf lengthsFit

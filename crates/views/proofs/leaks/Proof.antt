@@ -1,8 +1,7 @@
 -- `views::leaks` meets its contract. Assumes nothing.
 use mathlib.Core.Path.{_∙_}
-use Rattle.laws.proofs.Tests.{told}
+use Rattle.laws.proofs.Tests.{told, without-not, without-on}
 use Rattle.views.specs.Tables.{leaksIn}
-use Rattle.views.proofs.Flags.{without-not, without-on}
 use borrow.Author.Needs.{needs}
 use Rattle.views.proofs.leaks.Statement.{statement}
 use Rattle.views.proofs.leaks.Tie as tie

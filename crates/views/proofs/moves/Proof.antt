@@ -1,7 +1,6 @@
 -- `views::moves` meets its contract. Assumes nothing.
-use Rattle.laws.proofs.Tests.{told}
+use Rattle.laws.proofs.Tests.{told, not-yes, not-no}
 use Rattle.views.specs.Tables.{movesIn}
-use Rattle.views.proofs.Flags.{not-yes, not-no}
 use borrow.Author.Needs.{needs}
 use Rattle.views.proofs.moves.Statement.{statement}
 use Rattle.views.proofs.moves.Tie as tie

@@ -1,10 +1,9 @@
 -- `views::tears` meets its contract. Assumes nothing.
 -- Here `c3` is the place three before `c`.
 use mathlib.Core.Path.{sym}
-use Rattle.laws.proofs.Tests.{told, both-of, both-no, without-of}
+use Rattle.laws.proofs.Tests.{told, both-of, both-no, without-of, without-not, without-met}
 use Rattle.views.specs.Tables.{tearsIn}
 use Rattle.laws.proofs.Loops.{both-not}
-use Rattle.views.proofs.Flags.{without-not, without-met}
 use borrow.Author.Needs.{needs}
 use Rattle.views.proofs.tears.Statement.{statement}
 use Rattle.views.proofs.tears.Tie as tie

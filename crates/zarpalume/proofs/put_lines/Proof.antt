@@ -6,14 +6,6 @@ use Rattle.zarpalume.specs.Lines.{viewsLine}
 use Rattle.zarpalume.proofs.Joined.{joined}
 use Rattle.zarpalume.proofs.put_lines.Statement.{statement}
 use Rattle.zarpalume.proofs.put_lines.Tie as tie
-use Rattle.zarpalume.proofs.put_lines.Reads as reads
-use Rattle.zarpalume.proofs.put_lines.Lts as lts
-use Rattle.zarpalume.proofs.lines.put_depths.Reads as put-depths-reads
-use Rattle.zarpalume.proofs.lines.put_needs.Reads as put-needs-reads
-use Rattle.zarpalume.proofs.lines.put_reach.Reads as put-reach-reads
-use Rattle.zarpalume.proofs.lines.put_views.Reads as put-views-reads
-use Rattle.zarpalume.proofs.pairs.Reads as pairs-reads
-use Rattle.zarpalume.proofs.reached.Reads as reached-reads
 
 put-views-requires : tie.Need-put-views-requires
 put-views-requires c κs = search needs

@@ -9,9 +9,6 @@ use Rattle.zarpalume.specs.Verdict.{refusalOf, LineSmall}
 use Rattle.zarpalume.proofs.Writing.{pair-line}
 use Rattle.zarpalume.proofs.put_refusal.Statement.{statement}
 use Rattle.zarpalume.proofs.put_refusal.Tie as tie
-use Rattle.zarpalume.proofs.put_refusal.Reads as reads
-use Rattle.zarpalume.proofs.put_refusal.Lts as lts
-use Rattle.zarpalume.proofs.lines.put_pair.Reads as put-pair-reads
 
 enum-known-answer : tie.Need-enum-known-answer
 enum-known-answer c = search needs

@@ -8,11 +8,6 @@ use Rattle.zarpalume.proofs.Bounds.{small, few}
 use Rattle.zarpalume.proofs.Joined.{verdict-is}
 use Rattle.zarpalume.proofs.put_verdict.Statement.{statement}
 use Rattle.zarpalume.proofs.put_verdict.Tie as tie
-use Rattle.zarpalume.proofs.put_verdict.Reads as reads
-use Rattle.zarpalume.proofs.put_verdict.Lts as lts
-use Rattle.needs.proofs.needed.Reads as needed-reads
-use Rattle.views.proofs.judge.Reads as judge-reads
-use Rattle.zarpalume.proofs.put_lines.Reads as put-lines-reads
 
 judge-requires : tie.Need-judge-requires
 judge-requires c κs = search needs

@@ -1,19 +1,10 @@
 -- `zarpalume::zarpalume_verdict` meets its contract. Assumes nothing.
-use mathlib.Core.Path.{refl, sym, _∙_, ap}
 use native.Mathlib.Omega.{arith}
 use borrow.Author.Needs.{needs}
 use borrow.Author.Tests.{ne-eqb}
 use Rattle.zarpalume.proofs.Called.{call-good, call-bad, few-boxes, verdict-on, line-fits, model-said, boxes-most, refused-said}
 use Rattle.zarpalume.proofs.zarpalume_verdict.Statement.{statement}
 use Rattle.zarpalume.proofs.zarpalume_verdict.Tie as tie
-use Rattle.zarpalume.proofs.zarpalume_verdict.Reads as reads
-use Rattle.zarpalume.proofs.zarpalume_verdict.Lts as lts
-use Rattle.model.proofs.Machine.new.Reads as Machine-new-reads
-use Rattle.model.proofs.Model.new.Reads as Model-new-reads
-use Rattle.sheet.proofs.read.Reads as read-reads
-use Rattle.zarpalume.proofs.put_refusal.Reads as put-refusal-reads
-use Rattle.zarpalume.proofs.put_verdict.Reads as put-verdict-reads
-use Rattle.zarpalume.proofs.zero.Reads as zero-reads
 
 returns : tie.Need-returns
 returns c = call-bad _ (c .before .before .before .args .verdict .now) (ne-eqb _ _ (c .if1 .taken))

@@ -5,8 +5,6 @@ use borrow.Author.Needs.{needs}
 use Rattle.zarpalume.proofs.Writing.{Zeroing, zeroing-none, zeroing-more, zeroing-length, zeroing-all}
 use Rattle.zarpalume.proofs.zero.Statement.{statement}
 use Rattle.zarpalume.proofs.zero.Tie as tie
-use Rattle.zarpalume.proofs.zero.Reads as reads
-use Rattle.zarpalume.proofs.zero.Lts as lts
 
 abbrev Inv-bytes : tie.InvT-bytes
 Inv-bytes bytes₀ i₀ i-end bytes i = Zeroing bytes₀ i bytes

@@ -1,77 +1,56 @@
--- `needs::outputs::first_seen` meets its contract. The loop's invariant: no state passed counts and has the outputs of s.
+-- `needs::outputs::first_seen` meets its contract.
 -- Assumes nothing.
-use borrow.Author.Needs.{needs}
 use native.Mathlib.Omega.{arith}
 use mathlib.Core.Path.{sym, _∙_}
-use Prim.Native.Nat.{_≤_, _-_}
-use Rattle.reach.specs.Set.{flagAt}
-use Rattle.needs.specs.Tables.{seenIn}
-use Rattle.needs.proofs.Agreeing.{Missed, missed-none, missed-follows, missed-more, missed-hit, missed-all, seen-joined}
+use Rattle.needs.proofs.Agreeing.{missed-none, missed-hit, missed-all}
+use Rattle.needs.proofs.Starting.{begun-old, begun-follows, begun-more}
+use Rattle.needs.proofs.Owning.{above-none, seen-missed}
 use Rattle.needs.proofs.outputs.first_seen.Statement.{statement}
 use Rattle.needs.proofs.outputs.first_seen.Tie as tie
 
-abbrev Inv-earlier : tie.InvT-earlier
-Inv-earlier outputs owners inside d actions u s t₀ t = (t ≤ s) × Missed (flagAt inside) (seenIn owners outputs actions u) s t
-
-abbrev μ-earlier : tie.MeasureT-earlier
-μ-earlier outputs owners inside d actions u s t₀ t = s - t
-
-earlier-holds : tie.Need-earlier-holds Inv-earlier μ-earlier
-earlier-holds c = (omega arith, missed-none _ _ _)
-
-element-copy-out-wide : tie.Need-element-copy-out-wide Inv-earlier μ-earlier
-element-copy-out-wide c = search needs
-
-wide-requires : tie.Need-wide-requires Inv-earlier μ-earlier
-wide-requires c κs = tt
-
-add-t : tie.Need-add-t Inv-earlier μ-earlier
-add-t c = omega arith
-
-earlier-less : tie.Need-earlier-less Inv-earlier μ-earlier
-earlier-less c = omega arith
-
-earlier-again : tie.Need-earlier-again Inv-earlier μ-earlier
-earlier-again c =
-    let q = c .before .before .before .before .before .before .pre in
-    let g = c .before .before .before .before .before .before .args in
-    (omega arith, missed-follows _ _ _ (seen-joined (g .owners .now) (g .outputs .now) (g .actions) (g .u)) (q .1) (c .before .before .before .earlier-test .taken) (c .before .before .before .before .earlier .inv .1) (c .before .wide .ensures) (c .if1 .taken))
-
-joins-first-requires : tie.Need-joins-first-requires Inv-earlier μ-earlier
-joins-first-requires c κs = search needs
-
-returns : tie.Need-returns Inv-earlier μ-earlier
+returns : tie.Need-returns
 returns c =
-    (missed-hit _ _ _ (c .before .before .before .before .before .before .earlier .inv .1) (c .before .before .before .before .before .earlier-test .taken) (sym (c .before .joins-first .ensures) ∙ c .if2 .taken), omega arith)
+    let q = c .before .before .pre in
+    let e = c .if1 .taken in
+    (sym e ∙ missed-all _ _ _ (missed-none _ _ _) (omega (arith, e)), (omega arith, begun-old _ _ _ _ (q .1 .1 .0) e))
 
-add-t-2 : tie.Need-add-t-2 Inv-earlier μ-earlier
-add-t-2 c = omega arith
+joins-first-requires : tie.Need-joins-first-requires
+joins-first-requires c κs = let q = c .before .before .pre in (q .0, (omega arith, q .1 .1 .1))
 
-earlier-less-2 : tie.Need-earlier-less-2 Inv-earlier μ-earlier
-earlier-less-2 c = omega arith
+returns-2 : tie.Need-returns-2
+returns-2 c =
+    let q = c .before .before .before .before .pre in
+    let l = above-none (c .before .before .if1 .left) in
+    let e = missed-hit _ _ _ (missed-none _ _ _) l (sym (c .before .joins-first .ensures) ∙ c .if2 .taken) in
+    (e, (omega arith, begun-follows _ _ _ _ (q .1 .1 .0) e l))
 
-earlier-again-2 : tie.Need-earlier-again-2 Inv-earlier μ-earlier
-earlier-again-2 c =
-    (omega arith, missed-more _ _ _ (c .before .before .before .before .before .before .earlier .inv .1) (sym (c .before .joins-first .ensures) ∙ c .if2 .left))
+output-slot-requires : tie.Need-output-slot-requires
+output-slot-requires c κs = let q = c .before .before .before .before .pre in (q .0, q .1 .1 .1)
 
-returns-2 : tie.Need-returns-2 Inv-earlier μ-earlier
-returns-2 c = (missed-all _ _ _ (c .before .earlier .inv .1) (c .earlier-test .left), omega arith)
+start-of-requires : tie.Need-start-of-requires
+start-of-requires c κs = let q = c .before .before .before .before .before .before .pre in (c .before .output-slot .ensures .1, q .1 .1 .1, q .1 .1 .0 .long)
+
+seen-from-requires : tie.Need-seen-from-requires
+seen-from-requires c κs =
+    let q = c .before .before .before .before .before .before .before .pre in
+    let g = c .before .before .before .before .before .before .before .args in
+    let m = seen-missed (g .own .now) (g .count) (g .outputs .now) (g .actions) (q .1 .1 .0) (sym (c .before .before .before .before .joins-first .ensures) ∙ c .before .before .before .if2 .left) (c .before .before .output-slot .ensures .0) (c .start-of .ensures) in
+    (q .0, (q .1 .0, (m, (c .start-of .ensures .most, q .1 .1 .1))))
+
+returns-3 : tie.Need-returns-3
+returns-3 c =
+    let q = c .before .before .before .before .before .before .before .before .pre in
+    let r = c .seen-from .ensures in
+    (r .0, (r .1, begun-more _ _ _ _ (q .1 .1 .0) (c .before .before .before .output-slot .ensures .0) (c .before .start-of .ensures)))
 
 pub first-seen-spec : {M : Type 1} → statement M
 first-seen-spec =
     tie.close
     (tie.spec
-    Inv-earlier
-    μ-earlier
-    earlier-holds
-    element-copy-out-wide
-    wide-requires
-    add-t
-    earlier-less
-    earlier-again
-    joins-first-requires
     returns
-    add-t-2
-    earlier-less-2
-    earlier-again-2
-    returns-2)
+    joins-first-requires
+    returns-2
+    output-slot-requires
+    start-of-requires
+    seen-from-requires
+    returns-3)

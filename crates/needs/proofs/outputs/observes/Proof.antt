@@ -7,9 +7,9 @@ use Prim.Native.Nat.{ℕ, _≤_, _-_}
 use borrow.Author.Tests.{eq-eqb, ne-eqb}
 use lib.Dec.{eqb}
 use lib.ListN.{getD}
+use Rattle.laws.proofs.Loops.{some-yes, some-no}
 use Rattle.laws.specs.Range.{Held}
 use Rattle.laws.proofs.Range.{held-none, held-more}
-use Rattle.needs.proofs.Ranges.{some-yes, some-no}
 use Rattle.needs.proofs.outputs.observes.Statement.{statement}
 use Rattle.needs.proofs.outputs.observes.Tie as tie
 

@@ -1,75 +1,55 @@
--- `needs::outputs::seen_alike` meets its contract. The loop's invariant: no action of u that is passed has another output.
+-- `needs::outputs::seen_alike` meets its contract. The loop's invariant: no action passed has another output.
 -- Assumes nothing.
-use borrow.Author.Needs.{needs}
 use native.Mathlib.Omega.{arith}
-use Prim.Native.Nat.{ℕ, _+_, _*_, _≤_, _-_}
-use lib.Dec.{eqb}
-use lib.ListN.{getD}
-use Rattle.laws.specs.Choice.{brings}
+use Prim.Native.Nat.{_≤_, _-_}
 use Rattle.laws.specs.Range.{Held}
-use Rattle.laws.proofs.Range.{held-none, held-more}
-use Rattle.needs.proofs.Ranges.{every-yes, every-no}
-use Rattle.needs.proofs.Agreeing.{output-cell, output-row, not-mine, seen-same, seen-other}
+use Rattle.laws.proofs.Range.{held-none}
+use Rattle.needs.proofs.Owning.{listed-in, SameBy, seen-apart, seen-more, seen-all}
 use Rattle.needs.proofs.outputs.seen_alike.Statement.{statement}
 use Rattle.needs.proofs.outputs.seen_alike.Tie as tie
 
 abbrev Inv-actions : tie.InvT-actions
-Inv-actions outputs owners actions u t s a₀ a = (a ≤ actions) × Held a (λ (a : ℕ). brings (eqb (getD owners a 0) u) (eqb (getD outputs (t * actions + a) 0) (getD outputs (s * actions + a) 0)))
+Inv-actions outputs own count actions t s i₀ i = (i ≤ count) × Held i (SameBy own count outputs actions t s)
 
 abbrev μ-actions : tie.MeasureT-actions
-μ-actions outputs owners actions u t s a₀ a = actions - a
+μ-actions outputs own count actions t s i₀ i = count - i
 
 actions-holds : tie.Need-actions-holds Inv-actions μ-actions
-actions-holds c = (search needs, held-none _)
+actions-holds c = (omega arith, held-none _)
 
-owner-requires : tie.Need-owner-requires Inv-actions μ-actions
-owner-requires c κs = tt
+element-copy-out-wide : tie.Need-element-copy-out-wide Inv-actions μ-actions
+element-copy-out-wide c = let q = c .before .before .before .pre in omega (arith, q .0 .most, q .0 .actions-most)
 
-add-a : tie.Need-add-a Inv-actions μ-actions
-add-a c = omega arith
+wide-requires : tie.Need-wide-requires Inv-actions μ-actions
+wide-requires c κs = tt
+
+output-requires : tie.Need-output-requires Inv-actions μ-actions
+output-requires c κs =
+    let q = c .before .before .before .before .before .pre in (q .0 .outputs-long, q .0 .actions-most, q .1 .0, listed-in (q .0) (c .before .before .actions-test .taken) (c .wide .ensures))
+
+output-requires-2 : tie.Need-output-requires-2 Inv-actions μ-actions
+output-requires-2 c κs =
+    let q = c .before .before .before .before .before .before .pre in (q .0 .outputs-long, q .0 .actions-most, q .1 .1, listed-in (q .0) (c .before .before .before .actions-test .taken) (c .before .wide .ensures))
+
+returns : tie.Need-returns Inv-actions μ-actions
+returns c =
+    let g = c .before .before .before .before .before .before .before .before .args in
+    seen-apart (g .own .now) _ (g .outputs .now) (g .actions) _ _ (c .before .before .before .before .before .actions-test .taken) (c .before .before .before .wide .ensures) (c .before .before .output .ensures .0) (c .before .output2 .ensures .0) (c .if1 .taken)
+
+add-i : tie.Need-add-i Inv-actions μ-actions
+add-i c = let q = c .before .before .before .before .before .before .before .before .pre in omega (arith, q .0 .most, q .0 .actions-most)
 
 actions-less : tie.Need-actions-less Inv-actions μ-actions
 actions-less c = omega arith
 
 actions-again : tie.Need-actions-again Inv-actions μ-actions
-actions-again c = (omega arith, held-more _ _ (c .before .before .before .before .actions .inv .1) (not-mine _ (c .before .owner .ensures) (c .if1 .taken)))
-
-mul-at : tie.Need-mul-at Inv-actions μ-actions
-mul-at c = let q = c .before .before .before .before .before .before .pre in omega (arith, output-row (q .0) (q .1))
-
-add-at : tie.Need-add-at Inv-actions μ-actions
-add-at c = let q = c .before .before .before .before .before .before .pre in omega (arith, output-cell (q .0) (q .1) (c .before .before .before .actions-test .taken))
-
-at-requires : tie.Need-at-requires Inv-actions μ-actions
-at-requires c κs = tt
-
-mul-at-2 : tie.Need-mul-at-2 Inv-actions μ-actions
-mul-at-2 c = let q = c .before .before .before .before .before .before .before .pre in omega (arith, output-row (q .0) (q .2))
-
-add-at-2 : tie.Need-add-at-2 Inv-actions μ-actions
-add-at-2 c = let q = c .before .before .before .before .before .before .before .pre in omega (arith, output-cell (q .0) (q .2) (c .before .before .before .before .actions-test .taken))
-
-at-requires-2 : tie.Need-at-requires-2 Inv-actions μ-actions
-at-requires-2 c κs = tt
-
-returns : tie.Need-returns Inv-actions μ-actions
-returns c =
-    let m = c .before .before .before .before in
-    every-no _ _ _ (m .before .before .actions-test .taken) (seen-other (m .owner .ensures) (c .before .before .before .if1 .left) (c .before .before .at .ensures) (c .before .at2 .ensures) (c .if2 .taken))
-
-add-a-2 : tie.Need-add-a-2 Inv-actions μ-actions
-add-a-2 c = omega arith
-
-actions-less-2 : tie.Need-actions-less-2 Inv-actions μ-actions
-actions-less-2 c = omega arith
-
-actions-again-2 : tie.Need-actions-again-2 Inv-actions μ-actions
-actions-again-2 c =
-    let m = c .before .before .before .before in
-    (omega arith, held-more _ _ (m .before .before .before .actions .inv .1) (seen-same _ (c .before .before .at .ensures) (c .before .at2 .ensures) (c .if2 .left)))
+actions-again c =
+    let g = c .before .before .before .before .before .before .before .before .args in
+    (omega arith, seen-more (g .own .now) (g .count) (g .outputs .now) (g .actions) _ _ (c .before .before .before .before .before .before .actions .inv .1) (c .before .before .before .wide .ensures) (c .before .before .output .ensures .0) (c .before .output2 .ensures .0) (c .if1 .left))
 
 returns-2 : tie.Need-returns-2 Inv-actions μ-actions
-returns-2 c = every-yes _ _ (c .actions-test .left) (c .before .actions .inv .1)
+returns-2 c =
+    let g = c .before .before .before .args in seen-all (g .own .now) _ (g .outputs .now) (g .actions) _ _ (c .actions-test .left) (c .before .actions .inv .1)
 
 pub seen-alike-spec : {M : Type 1} → statement M
 seen-alike-spec =
@@ -78,18 +58,12 @@ seen-alike-spec =
     Inv-actions
     μ-actions
     actions-holds
-    owner-requires
-    add-a
+    element-copy-out-wide
+    wide-requires
+    output-requires
+    output-requires-2
+    returns
+    add-i
     actions-less
     actions-again
-    mul-at
-    add-at
-    at-requires
-    mul-at-2
-    add-at-2
-    at-requires-2
-    returns
-    add-a-2
-    actions-less-2
-    actions-again-2
     returns-2)

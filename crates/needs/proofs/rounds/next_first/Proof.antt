@@ -1,89 +1,60 @@
--- `needs::rounds::next_first` meets its contract. The loop's invariant: no state passed counts and agrees with s.
+-- `needs::rounds::next_first` meets its contract.
 -- Assumes nothing.
-use borrow.Author.Needs.{needs}
 use native.Mathlib.Omega.{arith}
 use mathlib.Core.Path.{sym, _∙_}
-use Prim.Native.Nat.{_≤_, _-_}
-use Rattle.reach.specs.Set.{flagAt}
-use Rattle.needs.specs.Tables.{stepIn, entry}
-use Rattle.needs.specs.Classes.{agrees}
-use Rattle.needs.proofs.Agreeing.{Missed, missed-start, missed-follows, missed-more, missed-hit, missed-all, agrees-joined}
+use Rattle.needs.specs.Tables.{stepIn}
+use Rattle.needs.proofs.Agreeing.{missed-start, missed-hit}
+use Rattle.needs.proofs.Starting.{begun-follows, begun-more, next-missed, below-other}
 use Rattle.needs.proofs.rounds.next_first.Statement.{statement}
 use Rattle.needs.proofs.rounds.next_first.Tie as tie
 
-abbrev Inv-earlier : tie.InvT-earlier
-Inv-earlier next inside c d states actions s first t₀ t =
-    (t ≤ s) × Missed (flagAt inside) (agrees (stepIn actions next) actions (entry c)) s t
+element-copy-out-wide : tie.Need-element-copy-out-wide
+element-copy-out-wide c = let q = c .before .pre in omega (arith, q .0 .states-most, q .1 .1 .1 .1 .0)
 
-abbrev μ-earlier : tie.MeasureT-earlier
-μ-earlier next inside c d states actions s first t₀ t = s - t
-
-element-copy-out-wide : tie.Need-element-copy-out-wide Inv-earlier μ-earlier
-element-copy-out-wide c = let q = c .before .pre in omega (arith, q .0 .states-most)
-
-wide-requires : tie.Need-wide-requires Inv-earlier μ-earlier
+wide-requires : tie.Need-wide-requires
 wide-requires c κs = tt
 
-earlier-holds : tie.Need-earlier-holds Inv-earlier μ-earlier
-earlier-holds c =
-    let q = c .before .before .before .pre in
-    (omega (arith, c .wide .ensures, q .1 .0 .upto _ (q .1 .1 .1)), missed-start _ _ (q .1 .0) (q .1 .1 .1) (c .wide .ensures))
+joins-requires : tie.Need-joins-requires
+joins-requires c κs =
+    let q = c .before .before .before .pre in (q .0, (omega (arith, c .wide .ensures, q .1 .0 .upto _ (q .1 .1 .1 .1 .0), q .1 .1 .1 .1 .0), q .1 .1 .1 .1 .0))
 
-element-copy-out-wide-2 : tie.Need-element-copy-out-wide-2 Inv-earlier μ-earlier
-element-copy-out-wide-2 c = let q = c .before .before .before .before .before .pre in omega (arith, q .0 .states-most)
+returns : tie.Need-returns
+returns c =
+    let q = c .before .before .before .before .before .pre in
+    let g = c .before .before .before .before .before .args in
+    let l = below-other (q .1 .0) (q .1 .1 .1 .1 .0) (q .1 .1 .1 .1 .1) (c .before .before .wide .ensures) in
+    let e = missed-hit _ _ _ (missed-start (stepIn (g .actions) (g .next .now)) (g .actions) (q .1 .0) (q .1 .1 .1 .1 .0) (c .before .before .wide .ensures)) l (sym (c .before .joins .ensures) ∙ c .if1 .taken) in
+    (e, (omega arith, begun-follows _ _ _ _ (q .1 .1 .1 .0) e l))
 
-wide-requires-2 : tie.Need-wide-requires-2 Inv-earlier μ-earlier
-wide-requires-2 c κs = tt
+next-slot-requires : tie.Need-next-slot-requires
+next-slot-requires c κs = let q = c .before .before .before .before .before .pre in (q .0, (q .1 .0, q .1 .1 .1 .1 .0))
 
-add-t : tie.Need-add-t Inv-earlier μ-earlier
-add-t c = omega (arith, c .before .before .before .before .before .before .before .before .pre .0 .states-most)
+start-of-requires : tie.Need-start-of-requires
+start-of-requires c κs =
+    let q = c .before .before .before .before .before .before .before .pre in (c .before .next-slot .ensures .1, omega (arith, q .0 .states-most, q .1 .1 .1 .1 .0), q .1 .1 .1 .0 .long)
 
-earlier-less : tie.Need-earlier-less Inv-earlier μ-earlier
-earlier-less c = omega arith
-
-earlier-again : tie.Need-earlier-again Inv-earlier μ-earlier
-earlier-again c =
+first-from-requires : tie.Need-first-from-requires
+first-from-requires c κs =
     let q = c .before .before .before .before .before .before .before .before .pre in
     let g = c .before .before .before .before .before .before .before .before .args in
-    (omega arith, missed-follows _ _ _ (agrees-joined (stepIn (g .actions) (g .next .now)) (g .actions) (entry (g .c .now))) (q .1 .1 .0) (c .before .before .before .earlier-test .taken) (c .before .before .before .before .earlier .inv .1) (c .before .wide2 .ensures) (c .if1 .taken))
+    let m = next-missed (g .actions) (g .next .now) (g .c .now) (q .1 .1 .1 .0) (c .before .before .before .before .before .wide .ensures) (sym (c .before .before .before .before .joins .ensures) ∙ c .before .before .before .if1 .left) (c .before .before .next-slot .ensures .0) (c .start-of .ensures) in
+    (q .0, (q .1 .1 .0, (m, (c .start-of .ensures .most, q .1 .1 .1 .1 .0))))
 
-joins-requires : tie.Need-joins-requires Inv-earlier μ-earlier
-joins-requires c κs = search needs
-
-returns : tie.Need-returns Inv-earlier μ-earlier
-returns c =
-    (missed-hit _ _ _ (c .before .before .before .before .before .before .earlier .inv .1) (c .before .before .before .before .before .earlier-test .taken) (sym (c .before .joins .ensures) ∙ c .if2 .taken), omega arith)
-
-add-t-2 : tie.Need-add-t-2 Inv-earlier μ-earlier
-add-t-2 c = omega (arith, c .before .before .before .before .before .before .before .before .before .before .pre .0 .states-most)
-
-earlier-less-2 : tie.Need-earlier-less-2 Inv-earlier μ-earlier
-earlier-less-2 c = omega arith
-
-earlier-again-2 : tie.Need-earlier-again-2 Inv-earlier μ-earlier
-earlier-again-2 c =
-    (omega arith, missed-more _ _ _ (c .before .before .before .before .before .before .earlier .inv .1) (sym (c .before .joins .ensures) ∙ c .if2 .left))
-
-returns-2 : tie.Need-returns-2 Inv-earlier μ-earlier
-returns-2 c = (missed-all _ _ _ (c .before .earlier .inv .1) (c .earlier-test .left), omega arith)
+returns-2 : tie.Need-returns-2
+returns-2 c =
+    let q = c .before .before .before .before .before .before .before .before .before .pre in
+    let r = c .first-from .ensures in
+    (r .0, (r .1, begun-more _ _ _ _ (q .1 .1 .1 .0) (c .before .before .before .next-slot .ensures .0) (c .before .start-of .ensures)))
 
 pub next-first-spec : {M : Type 1} → statement M
 next-first-spec =
     tie.close
     (tie.spec
-    Inv-earlier
-    μ-earlier
     element-copy-out-wide
     wide-requires
-    earlier-holds
-    element-copy-out-wide-2
-    wide-requires-2
-    add-t
-    earlier-less
-    earlier-again
     joins-requires
     returns
-    add-t-2
-    earlier-less-2
-    earlier-again-2
+    next-slot-requires
+    start-of-requires
+    first-from-requires
     returns-2)

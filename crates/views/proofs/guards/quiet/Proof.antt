@@ -26,14 +26,14 @@ states-holds c = search sweep-every
 low-of-requires : tie.Need-low-of-requires Inv-states μ-states
 low-of-requires c κs = omega arith
 
-entry-requires : tie.Need-entry-requires Inv-states μ-states
-entry-requires c κs = omega arith
+at-state-requires : tie.Need-at-state-requires Inv-states μ-states
+at-state-requires c κs = omega arith
 
-entry-requires-2 : tie.Need-entry-requires-2 Inv-states μ-states
-entry-requires-2 c κs =
+at-state-requires-2 : tie.Need-at-state-requires-2 Inv-states μ-states
+at-state-requires-2 c κs =
     let c2 = c .before .before in
     let c5 = c2 .before .before .before in
-    let l = low-upto (c5 .pre .0) (c2 .states-test .taken) (c .before .low-of .ensures) in
+    let l = low-upto (c5 .pre .1 .0) (c2 .states-test .taken) (c .before .low-of .ensures) in
     omega arith
 
 returns : tie.Need-returns Inv-states μ-states
@@ -42,8 +42,8 @@ returns c =
     let c2 = c .before .before in
     let c3 = c2 .before in
     let c4 = c3 .before in
-    every-no _ _ _ (c4 .states-test .taken) (ne-eqb _ _ (λ e. c .if1 .taken (c2 .entry .ensures ∙ e ∙ sym (rw (c3 .low-of .ensures) at
-    (c .before .entry2 .ensures)))))
+    every-no _ _ _ (c4 .states-test .taken) (ne-eqb _ _ (λ e. c .if1 .taken (c2 .at-state .ensures ∙ e ∙ sym (rw (c3 .low-of .ensures) at
+    (c .before .at-state2 .ensures)))))
 
 add-s : tie.Need-add-s Inv-states μ-states
 add-s c = omega arith
@@ -57,8 +57,8 @@ states-again c =
     let c3 = c2 .before in
     let c5 = c3 .before .before in (
       omega arith,
-      held-more _ _ (c5 .states .inv .1) (eq-eqb _ _ (sym (c2 .entry .ensures) ∙ c .if1 .left ∙ (rw (c3 .low-of .ensures) at
-          (c .before .entry2 .ensures)))),
+      held-more _ _ (c5 .states .inv .1) (eq-eqb _ _ (sym (c2 .at-state .ensures) ∙ c .if1 .left ∙ (rw (c3 .low-of .ensures) at
+          (c .before .at-state2 .ensures)))),
     )
 
 returns-2 : tie.Need-returns-2 Inv-states μ-states
@@ -73,8 +73,8 @@ quiet-spec =
     μ-states
     states-holds
     low-of-requires
-    entry-requires
-    entry-requires-2
+    at-state-requires
+    at-state-requires-2
     returns
     add-s
     states-less

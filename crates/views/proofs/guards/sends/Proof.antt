@@ -3,8 +3,8 @@ use borrow.Author.Needs.{needs}
 use Rattle.views.proofs.guards.sends.Statement.{statement}
 use Rattle.views.proofs.guards.sends.Tie as tie
 
-entry-requires : tie.Need-entry-requires
-entry-requires c κs = search needs
+at-state-requires : tie.Need-at-state-requires
+at-state-requires c κs = search needs
 
 low-of-requires : tie.Need-low-of-requires
 low-of-requires c κs = search needs
@@ -13,4 +13,4 @@ returns : tie.Need-returns
 returns c = cc
 
 pub sends-spec : {M : Type 1} → statement M
-sends-spec = tie.close (tie.spec entry-requires low-of-requires returns)
+sends-spec = tie.close (tie.spec at-state-requires low-of-requires returns)

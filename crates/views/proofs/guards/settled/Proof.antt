@@ -1,31 +1,49 @@
 -- `views::guards::settled` meets its contract. Assumes nothing.
 -- Here `c3` is the place three before `c`.
 use Rattle.laws.proofs.Tests.{told}
-use Rattle.views.proofs.Calm.{strong-calm, alone-owner}
+use Rattle.views.proofs.Calm.{keeps-calm, strong-calm, alone-owner}
+use native.Mathlib.Omega.{arith}
 use borrow.Author.Needs.{needs}
 use Rattle.views.proofs.guards.settled.Statement.{statement}
 use Rattle.views.proofs.guards.settled.Tie as tie
 
-strong-requires : tie.Need-strong-requires
-strong-requires c κs = search needs
+was-kept-requires : tie.Need-was-kept-requires
+was-kept-requires c κs =
+    let p = c .before .pre .1 in
+    (p .1 .1 .1 .1 .1 .0, omega (arith, p .0 .actions-most))
 
 returns : tie.Need-returns
-returns c = (c .before .before .before .pre .0, λ e. strong-calm _ _ _ _ _ _ _ (told _ _ (c .before .strong .ensures) (c .if1 .taken)))
+returns c =
+    let c3 = c .before .before .before in
+    let p = c3 .pre .1 in
+    (c3 .pre .0, λ e. keeps-calm _ (p .1 .1 .1 .0 .noted _ _ (omega (arith, p .0 .actions-most)) (told _ _ (c .before .was-kept .ensures) (c .if1 .taken))))
 
-alone-requires : tie.Need-alone-requires
-alone-requires c κs = search needs
+is-alone-requires : tie.Need-is-alone-requires
+is-alone-requires c κs = search needs
 
 returns-2 : tie.Need-returns-2
 returns-2 c =
     let c5 = c .before .before .before .before .before in
-    (c5 .pre .0, λ e. alone-owner _ _ _ _ _ _ _ (told _ _ (c .before .alone .ensures) (c .if2 .taken)))
+    let p = c5 .pre .1 in
+    (c5 .pre .0, λ e. alone-owner _ _ _ _ _ _ _ (p .1 .1 .1 .1 .0 .alone _ (told _ _ (c .before .is-alone .ensures) (c .if2 .taken))))
 
-weak-requires : tie.Need-weak-requires
-weak-requires c κs = search needs
+strong-requires : tie.Need-strong-requires
+strong-requires c κs = search needs
 
 returns-3 : tie.Need-returns-3
-returns-3 c = search needs
+returns-3 c =
+    let c7 = c .before .before .before .before .before .before .before in
+    (c7 .pre .0, λ e. strong-calm _ _ _ _ _ _ _ (told _ _ (c .before .strong .ensures) (c .if3 .taken)))
+
+weak-requires : tie.Need-weak-requires
+weak-requires c κs =
+    let c8 = c .before .before .before .before .before .before .before .before in
+    let p = c8 .pre in
+    (p .0, (p .1 .0, (p .1 .1 .0, p .1 .1 .1 .1 .1 .1)))
+
+returns-4 : tie.Need-returns-4
+returns-4 c = search needs
 
 pub settled-spec : {M : Type 1} → statement M
 settled-spec =
-    tie.close (tie.spec strong-requires returns alone-requires returns-2 weak-requires returns-3)
+    tie.close (tie.spec was-kept-requires returns is-alone-requires returns-2 strong-requires returns-3 weak-requires returns-4)

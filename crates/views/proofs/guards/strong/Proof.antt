@@ -45,11 +45,9 @@ sends-requires : tie.Need-sends-requires Inv-states μ-states
 sends-requires c κs =
     let c2 = c .before .before in
     let c5 = c2 .before .before .before in
-    let n = c5 .pre .0 in (
-      (n .actions-most, c5 .pre .1 .1 .0, omega (arith, n .actions-most), omega (arith, n .states-most)),
-      next-small n (c2 .states-test .taken)
-          (c5 .pre .1 .1 .1),
-    )
+    let n = c5 .pre .0 in
+    let p = c5 .pre .1 .1 in
+    (n .size, ((n .actions-most, p .0, p .1, omega (arith, n .states-most)), next-small n (c2 .states-test .taken) (p .1)))
 
 sends-requires-2 : tie.Need-sends-requires-2 Inv-states μ-states
 sends-requires-2 c κs =
@@ -58,7 +56,7 @@ sends-requires-2 c κs =
     let c6 = c3 .before .before .before in
     let n = c6 .pre .0 in
     let l = low-upto (c6 .pre .1 .0) (c3 .states-test .taken) (c2 .low-of .ensures) in
-    ((n .actions-most, c6 .pre .1 .1 .0, omega (arith, n .actions-most), omega (arith, n .states-most)), next-small n l (c6 .pre .1 .1 .1))
+    (n .size, ((n .actions-most, c6 .pre .1 .1 .0, c6 .pre .1 .1 .1, omega (arith, n .states-most)), next-small n l (c6 .pre .1 .1 .1)))
 
 returns : tie.Need-returns Inv-states μ-states
 unfolding strongIn

@@ -44,7 +44,7 @@ sends-requires c κs =
     let c8 = c5 .before .before .before in
     let n = c8 .pre .1 .0 in
     let p = c8 .pre .1 .1 .1 in
-    ((n .actions-most, p .0, omega (arith, n .actions-most), omega (arith, n .states-most)), next-small n (c5 .states-test .taken) (p .2))
+    (n .size, ((n .actions-most, p .0, p .2, omega (arith, n .states-most)), next-small n (c5 .states-test .taken) (p .2)))
 
 sends-requires-2 : tie.Need-sends-requires-2 Inv-states μ-states
 sends-requires-2 c κs =
@@ -55,7 +55,7 @@ sends-requires-2 c κs =
     let p = c9 .pre .1 .1 .1 in
     let h = c2 .linked .ensures .below (c .before .if1 .taken) in
     let l = lt-trans h (c6 .states-test .taken) in
-    ((n .actions-most, p .0, omega (arith, n .actions-most), omega (arith, n .states-most)), next-small n l (p .2))
+    (n .size, ((n .actions-most, p .0, p .2, omega (arith, n .states-most)), next-small n l (p .2)))
 
 returns : tie.Need-returns Inv-states μ-states
 returns c =

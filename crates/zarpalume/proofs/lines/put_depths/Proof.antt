@@ -7,10 +7,6 @@ use Rattle.zarpalume.specs.Lines.{depthLines}
 use Rattle.zarpalume.proofs.Writing.{Growing, growing-none, depth-more}
 use Rattle.zarpalume.proofs.lines.put_depths.Statement.{statement}
 use Rattle.zarpalume.proofs.lines.put_depths.Tie as tie
-use Rattle.zarpalume.proofs.lines.put_depths.Reads as reads
-use Rattle.zarpalume.proofs.lines.put_depths.Lts as lts
-use Rattle.model.proofs.id.Reads as id-reads
-use Rattle.zarpalume.proofs.lines.put_pair.Reads as put-pair-reads
 
 abbrev Inv-boxes : tie.InvT-boxes
 Inv-boxes tail₀ ids depths boxes at₀ u₀ t9 tail at u = (u ≤ boxes) × Growing tail₀ tail at (depthLines ids depths u) (28 * u)

@@ -4,9 +4,6 @@ use Rattle.zarpalume.proofs.Writing.{number-whole, one-more}
 use native.Mathlib.Omega.{arith}
 use Rattle.zarpalume.proofs.lines.put_field.Statement.{statement}
 use Rattle.zarpalume.proofs.lines.put_field.Tie as tie
-use Rattle.zarpalume.proofs.lines.put_field.Reads as reads
-use Rattle.zarpalume.proofs.lines.put_field.Lts as lts
-use Rattle.text.proofs.put_number.Reads as put-number-reads
 
 put-number-requires : tie.Need-put-number-requires
 put-number-requires c κs = search needs

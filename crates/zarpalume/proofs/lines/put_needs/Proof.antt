@@ -7,11 +7,6 @@ use Rattle.zarpalume.specs.Lines.{needLines}
 use Rattle.zarpalume.proofs.Writing.{Growing, growing-none, need-more}
 use Rattle.zarpalume.proofs.lines.put_needs.Statement.{statement}
 use Rattle.zarpalume.proofs.lines.put_needs.Tie as tie
-use Rattle.zarpalume.proofs.lines.put_needs.Reads as reads
-use Rattle.zarpalume.proofs.lines.put_needs.Lts as lts
-use Rattle.model.proofs.at.Reads as at-reads
-use Rattle.model.proofs.id.Reads as id-reads
-use Rattle.zarpalume.proofs.lines.put_pair.Reads as put-pair-reads
 
 abbrev Inv-pairs : tie.InvT-pairs
 Inv-pairs tail₀ ids list count at₀ k₀ t9 tail at k = (k ≤ count) × Growing tail₀ tail at (needLines ids list k) (27 * k)

@@ -4,10 +4,6 @@ use Rattle.text.proofs.Buffer.{lent}
 use native.Mathlib.Omega.{arith}
 use Rattle.zarpalume.proofs.lines.put_pair.Statement.{statement}
 use Rattle.zarpalume.proofs.lines.put_pair.Tie as tie
-use Rattle.zarpalume.proofs.lines.put_pair.Reads as reads
-use Rattle.zarpalume.proofs.lines.put_pair.Lts as lts
-use Rattle.zarpalume.proofs.lines.put_field.Reads as put-field-reads
-use Rattle.zarpalume.proofs.lines.put_words.Reads as put-words-reads
 
 put-words-requires : tie.Need-put-words-requires
 put-words-requires c κs = search needs

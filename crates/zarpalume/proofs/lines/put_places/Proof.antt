@@ -4,10 +4,6 @@ use Rattle.text.proofs.Buffer.{lent}
 use native.Mathlib.Omega.{arith}
 use Rattle.zarpalume.proofs.lines.put_places.Statement.{statement}
 use Rattle.zarpalume.proofs.lines.put_places.Tie as tie
-use Rattle.zarpalume.proofs.lines.put_places.Reads as reads
-use Rattle.zarpalume.proofs.lines.put_places.Lts as lts
-use Rattle.zarpalume.proofs.lines.put_field.Reads as put-field-reads
-use Rattle.zarpalume.proofs.lines.put_place.Reads as put-place-reads
 
 put-place-requires : tie.Need-put-place-requires
 put-place-requires c κs = search needs

@@ -4,10 +4,6 @@ use Rattle.text.proofs.Buffer.{lent}
 use native.Mathlib.Omega.{arith}
 use Rattle.zarpalume.proofs.lines.put_reach.Statement.{statement}
 use Rattle.zarpalume.proofs.lines.put_reach.Tie as tie
-use Rattle.zarpalume.proofs.lines.put_reach.Reads as reads
-use Rattle.zarpalume.proofs.lines.put_reach.Lts as lts
-use Rattle.zarpalume.proofs.lines.put_field.Reads as put-field-reads
-use Rattle.zarpalume.proofs.lines.put_words.Reads as put-words-reads
 
 slice-aggregate-put-words : tie.Need-slice-aggregate-put-words
 slice-aggregate-put-words c = search needs

@@ -4,10 +4,6 @@ use Rattle.text.proofs.Buffer.{lent}
 use native.Mathlib.Omega.{arith}
 use Rattle.zarpalume.proofs.lines.put_respect.Statement.{statement}
 use Rattle.zarpalume.proofs.lines.put_respect.Tie as tie
-use Rattle.zarpalume.proofs.lines.put_respect.Reads as reads
-use Rattle.zarpalume.proofs.lines.put_respect.Lts as lts
-use Rattle.zarpalume.proofs.lines.put_place.Reads as put-place-reads
-use Rattle.zarpalume.proofs.lines.put_words.Reads as put-words-reads
 
 slice-aggregate-put-place : tie.Need-slice-aggregate-put-place
 slice-aggregate-put-place c = search needs

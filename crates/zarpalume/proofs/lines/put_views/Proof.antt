@@ -5,14 +5,6 @@ use Rattle.views.proofs.Told.{told-accepted}
 use Rattle.zarpalume.proofs.ViewsLine.{line-accepted, line-output, line-respect, line-step, line-refused, small-as}
 use Rattle.zarpalume.proofs.lines.put_views.Statement.{statement}
 use Rattle.zarpalume.proofs.lines.put_views.Tie as tie
-use Rattle.zarpalume.proofs.lines.put_views.Reads as reads
-use Rattle.zarpalume.proofs.lines.put_views.Lts as lts
-use Rattle.model.proofs.id.Reads as id-reads
-use Rattle.model.proofs.owner.Reads as owner-reads
-use Rattle.zarpalume.proofs.lines.put_pair.Reads as put-pair-reads
-use Rattle.zarpalume.proofs.lines.put_places.Reads as put-places-reads
-use Rattle.zarpalume.proofs.lines.put_respect.Reads as put-respect-reads
-use Rattle.zarpalume.proofs.lines.put_words.Reads as put-words-reads
 
 enum-told : tie.Need-enum-told
 enum-told c = search needs

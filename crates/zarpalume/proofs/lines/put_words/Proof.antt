@@ -3,9 +3,6 @@ use borrow.Author.Needs.{needs}
 use Rattle.zarpalume.proofs.Writing.{whole}
 use Rattle.zarpalume.proofs.lines.put_words.Statement.{statement}
 use Rattle.zarpalume.proofs.lines.put_words.Tie as tie
-use Rattle.zarpalume.proofs.lines.put_words.Reads as reads
-use Rattle.zarpalume.proofs.lines.put_words.Lts as lts
-use Rattle.text.proofs.put_bytes.Reads as put-bytes-reads
 
 put-bytes-requires : tie.Need-put-bytes-requires
 put-bytes-requires c κs = search needs

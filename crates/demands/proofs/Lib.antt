@@ -1,0 +1,16 @@
+pub mod Refusing
+pub mod Reading
+pub mod Demands
+pub mod Fakes
+pub mod Rows
+pub mod Bytes
+pub mod AfterRead
+pub mod OnBytes
+pub mod Canonical
+pub mod Records
+pub mod Phases
+pub mod LineKinds
+pub mod Texts
+pub mod Printing
+pub mod ReadBack
+pub mod Sheets

@@ -1,0 +1,6 @@
+pub mod Calls
+pub mod Refusals
+pub mod Told
+pub mod Printed
+pub mod Demands
+pub mod Ours
