@@ -1,0 +1,218 @@
+// The verdict on a sheet, taken apart for C++20. Header only: no exceptions, no allocation, no state.
+#ifndef ZARPALUME_HPP
+#define ZARPALUME_HPP
+
+#include "zarpalume.h"
+
+#include <algorithm>
+#include <array>
+#include <charconv>
+#include <cstddef>
+#include <cstdint>
+#include <optional>
+#include <span>
+#include <string_view>
+#include <system_error>
+
+namespace zarpalume {
+
+inline constexpr std::size_t most_boxes = 16;
+inline constexpr std::size_t most_arrows = most_boxes * (most_boxes - 1);
+
+enum class Outcome : std::uint8_t { accepted, broken, refused };
+
+enum class Condition : std::uint8_t { output, respect, step };
+
+// The condition as the verdict's text has it.
+constexpr std::string_view word(Condition condition) noexcept {
+    switch (condition) {
+    case Condition::output:
+        return "output";
+    case Condition::respect:
+        return "respect";
+    case Condition::step:
+        return "step";
+    }
+    return {};
+}
+
+// The first broken place. The box is an id, and for output the action's box; respect has no t.
+struct Place {
+    Condition condition{};
+    std::uint32_t box{};
+    std::uint32_t action{};
+    std::uint32_t s{};
+    std::optional<std::uint32_t> t{};
+
+    friend constexpr bool operator==(const Place &, const Place &) noexcept = default;
+};
+
+struct Refusal {
+    std::uint32_t number{};
+    std::uint32_t line{};
+
+    friend constexpr bool operator==(const Refusal &, const Refusal &) noexcept = default;
+};
+
+// A needed arrow, by the ids of its boxes.
+struct Arrow {
+    std::uint32_t source{};
+    std::uint32_t target{};
+
+    friend constexpr bool operator==(const Arrow &, const Arrow &) noexcept = default;
+};
+
+// The longest bench run that a tester of this box needs.
+struct Depth {
+    std::uint32_t box{};
+    std::uint32_t depth{};
+
+    friend constexpr bool operator==(const Depth &, const Depth &) noexcept = default;
+};
+
+namespace detail {
+
+// The part of the text before the next mark, which is taken off; all that is left where there is none.
+constexpr std::string_view take(std::string_view &text, char mark) noexcept {
+    const std::size_t end = std::min(text.find(mark), text.size());
+    const std::string_view part = text.substr(0, end);
+    text.remove_prefix(std::min(end + 1, text.size()));
+    return part;
+}
+
+inline std::optional<std::uint32_t> number(std::string_view field) noexcept {
+    std::uint32_t value = 0;
+    const char *const end = field.data() + field.size();
+    const auto [stop, error] = std::from_chars(field.data(), end, value);
+    if (error != std::errc{} || stop != end) {
+        return std::nullopt;
+    }
+    return value;
+}
+
+// The next field of a line as a number; 0 for anything else, which the library does not write.
+inline std::uint32_t take_number(std::string_view &line) noexcept {
+    return number(take(line, '\t')).value_or(0);
+}
+
+// A list in fixed room; what has no room is left out, and the library writes no more than fits.
+template <typename Item, std::size_t room>
+class List {
+public:
+    constexpr void add(const Item &item) noexcept {
+        if (count_ < room) {
+            items_[count_++] = item;
+        }
+    }
+
+    constexpr std::span<const Item> items() const noexcept { return std::span{items_}.first(count_); }
+
+private:
+    std::array<Item, room> items_{};
+    std::size_t count_ = 0;
+};
+
+} // namespace detail
+
+// Everything that the verdict's text says, and the text. Spans and views into it live as long as it does.
+class Verdict {
+public:
+    Outcome outcome() const noexcept { return outcome_; }
+    bool accepted() const noexcept { return outcome_ == Outcome::accepted; }
+
+    // Where the views are first broken, if they are.
+    std::optional<Place> broken() const noexcept {
+        return outcome_ == Outcome::broken ? std::optional{place_} : std::nullopt;
+    }
+
+    // Why the sheet is refused, if it is; nothing below has content then.
+    std::optional<Refusal> refused() const noexcept {
+        return outcome_ == Outcome::refused ? std::optional{refusal_} : std::nullopt;
+    }
+
+    // By the boxes' order on the sheet, source first.
+    std::span<const Arrow> needed() const & noexcept { return needed_.items(); }
+    // One for each box, in the boxes' order.
+    std::span<const Depth> depths() const & noexcept { return depths_.items(); }
+    // How many states some run from the start reaches.
+    std::uint32_t reach() const noexcept { return reach_; }
+
+    std::string_view text() const & noexcept {
+        return {reinterpret_cast<const char *>(buffer_.data()), length_};
+    }
+
+    // A part of a verdict that is gone at the end of the line could be kept by mistake.
+    void needed() const && = delete;
+    void depths() const && = delete;
+    void text() const && = delete;
+
+    friend Verdict judge(std::span<const std::uint8_t> sheet) noexcept;
+
+private:
+    explicit Verdict(std::span<const std::uint8_t> sheet) noexcept {
+        // An empty span may hold a null pointer.
+        static constexpr std::uint8_t nothing = 0;
+        const std::uint8_t *const front = sheet.empty() ? &nothing : sheet.data();
+        length_ = std::min(zarpalume_verdict(front, sheet.size(), buffer_.data(), buffer_.size()), buffer_.size());
+        for (std::string_view rest = text(); !rest.empty();) {
+            read(detail::take(rest, '\n'));
+        }
+    }
+
+    // A line that no verdict has says nothing.
+    void read(std::string_view line) noexcept {
+        const std::string_view word = detail::take(line, '\t');
+        if (word == "views") {
+            read_views(line);
+        } else if (word == "refused") {
+            refusal_ = {detail::take_number(line), detail::take_number(line)};
+        } else if (word == "need") {
+            needed_.add({detail::take_number(line), detail::take_number(line)});
+        } else if (word == "depth") {
+            depths_.add({detail::take_number(line), detail::take_number(line)});
+        } else if (word == "reach") {
+            reach_ = detail::take_number(line);
+        }
+    }
+
+    void read_views(std::string_view line) noexcept {
+        outcome_ = detail::take(line, '\t') == "accepted" ? Outcome::accepted : Outcome::broken;
+        const std::string_view condition = detail::take(line, '\t');
+        for (const Condition each : {Condition::output, Condition::respect, Condition::step}) {
+            if (condition == word(each)) {
+                place_.condition = each;
+            }
+        }
+        place_.box = detail::take_number(line);
+        place_.action = detail::take_number(line);
+        place_.s = detail::take_number(line);
+        place_.t = detail::number(detail::take(line, '\t'));
+    }
+
+    // Refused until a line says otherwise: nothing is ever accepted for want of a line.
+    Outcome outcome_ = Outcome::refused;
+    Place place_{};
+    Refusal refusal_{};
+    detail::List<Arrow, most_arrows> needed_{};
+    detail::List<Depth, most_boxes> depths_{};
+    std::uint32_t reach_ = 0;
+    std::size_t length_ = 0;
+    std::array<std::uint8_t, ZARPALUME_VERDICT_BYTES> buffer_{};
+};
+
+// Judges a sheet; never fails. It takes ZARPALUME_STACK_BYTES of stack and the verdict's own size.
+inline Verdict judge(std::span<const std::uint8_t> sheet) noexcept {
+    return Verdict{sheet};
+}
+
+inline Verdict judge(std::span<const std::byte> sheet) noexcept {
+    return judge(std::span{reinterpret_cast<const std::uint8_t *>(sheet.data()), sheet.size()});
+}
+
+inline Verdict judge(std::string_view sheet) noexcept {
+    return judge(std::span{reinterpret_cast<const std::uint8_t *>(sheet.data()), sheet.size()});
+}
+
+} // namespace zarpalume
+
+#endif
