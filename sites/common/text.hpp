@@ -1,0 +1,22 @@
+// Lines out of a text, and a text into a line.
+#pragma once
+
+#include <algorithm>
+#include <cstddef>
+#include <string>
+#include <string_view>
+
+namespace sites {
+
+// The text's first line, without its end, which is taken off with it.
+inline std::string_view take_line(std::string_view &text) noexcept {
+    const std::size_t end = std::min(text.find('\n'), text.size());
+    const std::string_view line = text.substr(0, end);
+    text.remove_prefix(std::min(end + 1, text.size()));
+    return line;
+}
+
+// On one line and in one field: tabs, newlines and backslashes as \t, \n and \\, other control bytes as \xHH.
+std::string escaped(std::string_view text);
+
+} // namespace sites

@@ -1,0 +1,24 @@
+// draw SHEET: judges the sheet, and prints it and its verdict in Graphviz's language.
+#include "../common/file.hpp"
+#include "../common/text.hpp"
+#include "dot.hpp"
+
+#include <cstdio>
+#include <filesystem>
+#include <string>
+
+int main(int count, char **words) {
+    if (count != 2) {
+        std::fputs("usage: draw SHEET [PICTURE.svg or PICTURE.png]...\n", stderr);
+        return 2;
+    }
+    const std::string name = words[1];
+    const sites::Reading sheet = sites::read_file(name, sites::sheet_reading);
+    if (!sheet.problem.empty()) {
+        std::fprintf(stderr, "draw: %s: %s\n", sites::escaped(name).c_str(), sheet.problem.c_str());
+        return 2;
+    }
+    const zarpalume::Verdict verdict = zarpalume::judge(std::string_view{sheet.bytes});
+    const std::string text = sites::dot(std::filesystem::path{name}.filename().native(), sheet.bytes, verdict);
+    return std::fwrite(text.data(), 1, text.size(), stdout) == text.size() && std::fflush(stdout) == 0 ? 0 : 2;
+}

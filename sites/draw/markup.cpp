@@ -1,0 +1,53 @@
+#include "markup.hpp"
+
+namespace sites {
+
+std::string marked_up(std::string_view text) {
+    std::string result;
+    for (const char each : text) {
+        switch (each) {
+        case '&':
+            result += "&amp;";
+            break;
+        case '<':
+            result += "&lt;";
+            break;
+        case '>':
+            result += "&gt;";
+            break;
+        case '"':
+            result += "&quot;";
+            break;
+        // Plain ones would be dropped, and a label may be all spaces.
+        case ' ':
+        case '\t':
+            result += "&#160;";
+            break;
+        default:
+            result += each > ' ' && each <= '~' ? each : '?';
+        }
+    }
+    return result;
+}
+
+std::string quoted(std::string_view text) {
+    return "\"" + std::string{text} + "\"";
+}
+
+std::string bold(std::string_view marked) {
+    return "<b>" + std::string{marked} + "</b>";
+}
+
+std::string row(std::string_view size, std::string_view colour, std::string_view marked) {
+    return "<tr><td><font point-size=" + quoted(size) + " color=" + quoted(colour) + ">" + std::string{marked} + "</font></td></tr>";
+}
+
+std::string table(std::string_view rows) {
+    return R"(<table border="0" cellspacing="0" cellpadding="2">)" + std::string{rows} + "</table>";
+}
+
+std::string label(std::string_view rows) {
+    return "label=<" + table(rows) + ">";
+}
+
+} // namespace sites

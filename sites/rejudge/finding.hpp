@@ -1,0 +1,45 @@
+// What is found about one name: a line of the table.
+#pragma once
+
+#include "names.hpp"
+
+#include <cstddef>
+#include <cstdint>
+#include <optional>
+#include <string>
+#include <string_view>
+
+namespace sites {
+
+enum class Outcome : std::uint8_t { accepted, broken, refused, unread, skipped };
+
+// The stored verdict: same as now, changed, none there, new (none was there, and now one is), or not to be read or written.
+enum class Stored : std::uint8_t { nothing, same, changed, none, written, unread, unwritten };
+
+// The needed arrows laid beside the drawing, and the reach.
+struct Counts {
+    std::size_t needed = 0;
+    std::size_t not_drawn = 0;
+    std::size_t no_path = 0;
+    std::size_t reach = 0;
+};
+
+struct Finding {
+    std::string path{};
+    Outcome outcome = Outcome::unread;
+    std::string place = "-";
+    std::optional<Counts> counts{};
+    Stored stored = Stored::nothing;
+    std::string change = "-";
+};
+
+// Judges the sheet, if it is one, and compares the verdict with the stored one; may store it.
+Finding find(const Name &name, bool store);
+
+// The table's line, with its end.
+std::string line(const Finding &finding);
+
+// 0 where all is well, 1 where somebody has to look, 2 where something could not be read or written.
+int status(const Finding &finding);
+
+} // namespace sites
