@@ -1,9 +1,9 @@
-//! The second program: document 01 written down as near to its definitions as can be,
+//! The second program: the scope written down as near to its definitions as can be,
 //! so that another implementation can be compared with it.
 //!
 //! `second serve`     answers the request stream of tests/README.md,
 //! `second verdict`   reads a sheet from standard input and writes its verdict,
-//! `second selftest`  checks this program against document 01 and against brute force.
+//! `second selftest`  checks this program against the scope and against brute force.
 
 use std::io::{self, BufReader, BufWriter, Read, Write};
 use std::ops::Range;

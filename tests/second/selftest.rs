@@ -1,4 +1,4 @@
-//! Checks of the second program: the cases of document 01, and brute force on small machines.
+//! Checks of the second program: the cases of the scope, and brute force on small machines.
 
 use super::*;
 
@@ -174,7 +174,7 @@ impl Whole {
     }
 }
 
-/// The register machine of 001, section 5.2, as document 01 lays it out.
+/// The register machine of the report, section 5.2, as the scope lays it out.
 fn register_machine() -> Whole {
     let sums = [0, 0, 1, 0, 2, 0, 1, 2, 3];
     let next_by: [[u16; 9]; 4] = [
@@ -1186,7 +1186,7 @@ fn brute_force(checks: &mut Checks, dice: &mut Dice) {
 }
 
 /// A machine of registers, one bit for each of three boxes. A box's action writes its own
-/// register from the registers the box observes, so by Theorem 8 of 001 the views that show
+/// register from the registers the box observes, so by Theorem 8 of the report the views that show
 /// just the observed registers are accepted once the arrows follow what is altered.
 fn structured_machine(dice: &mut Dice) -> Whole {
     let mut whole = Whole::quiet(8, 3, 3);

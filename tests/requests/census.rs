@@ -1,0 +1,169 @@
+//! Counts what the answers to a stream cover, and names what they lack.
+
+use crate::compare::Speaker;
+use crate::stream::Message;
+use std::collections::BTreeMap;
+use std::fs::File;
+use std::io::{self, BufReader};
+
+/// The refusal numbers that each call can give.
+const REFUSALS: [(char, &[u64]); 7] = [
+    ('R', &[1, 2, 3, 4, 5, 6, 7, 8, 9, 10, 11]),
+    ('L', &[1, 2, 3, 4, 5, 6, 7, 8, 9, 11, 13]),
+    ('J', &[10, 12]),
+    ('N', &[10, 12]),
+    ('P', &[10, 12, 13]),
+    ('S', &[10, 12]),
+    ('V', &[1, 2, 3, 4, 5, 6, 7, 8, 9, 11]),
+];
+
+const EVENTS: [&str; 34] = [
+    "R a sheet of 32,768 bytes read",
+    "R 128 states",
+    "R 32 actions",
+    "R 16 boxes",
+    "R the id 65535",
+    "L a label of 1 byte",
+    "L a label of 32 bytes",
+    "J accepted",
+    "J broken at output",
+    "J broken at respect",
+    "J broken at step",
+    "J a full model",
+    "N no needed arrow",
+    "N 20 needed arrows or more",
+    "N all 240 arrows needed",
+    "N depth 3 or more",
+    "N depth 50 or more",
+    "N states out of reach",
+    "P plain: nothing kept",
+    "P plain: something dropped",
+    "P plain: a run of 1,024 actions",
+    "P intransitive: nothing kept",
+    "P intransitive: something dropped",
+    "P intransitive: a run of 1,024 actions",
+    "P intransitive keeps more than plain",
+    "S all states reached",
+    "S states out of reach",
+    "V accepted",
+    "V broken at output",
+    "V broken at respect",
+    "V broken at step",
+    "V no needed arrow",
+    "V 20 needed arrows or more",
+    "V a buffer of the wrong length",
+];
+
+#[derive(Default)]
+struct Census {
+    counts: BTreeMap<String, u64>,
+    /// The plain purge before this one: its request without the kind, and how many actions it kept.
+    plain: (Vec<u8>, u64),
+}
+
+impl Census {
+    fn note(&mut self, happened: bool, letter: u8, event: &str) {
+        if happened {
+            *self.counts.entry(format!("{} {event}", letter as char)).or_default() += 1;
+        }
+    }
+
+    fn see(&mut self, request: &Message, answer: &Message) {
+        let letter = request.letter;
+        let number = answer.value("number");
+        if number > 0 {
+            self.note(true, letter, &format!("refusal {number}"));
+            return;
+        }
+        match letter {
+            b'R' => {
+                self.note(request.values("sheet").len() == 32_768, letter, "a sheet of 32,768 bytes read");
+                self.note(answer.value("states") == 128, letter, "128 states");
+                self.note(answer.value("actions") == 32, letter, "32 actions");
+                self.note(answer.value("boxes") == 16, letter, "16 boxes");
+                self.note(answer.values("ids").contains(&65_535), letter, "the id 65535");
+            }
+            b'L' => {
+                let length = answer.values("label").len();
+                self.note(length == 1, letter, "a label of 1 byte");
+                self.note(length == 32, letter, "a label of 32 bytes");
+            }
+            b'J' => {
+                let place = ["accepted", "broken at output", "broken at respect", "broken at step"];
+                self.note(true, letter, place[answer.value("condition") as usize]);
+                let full = ["states", "actions", "boxes"].map(|size| request.value(size)) == [128, 32, 16];
+                self.note(full, letter, "a full model");
+            }
+            b'N' => {
+                let deepest = answer.values("depths").iter().max().copied().unwrap_or(0);
+                self.note(answer.value("pairs") == 0, letter, "no needed arrow");
+                self.note(answer.value("pairs") >= 20, letter, "20 needed arrows or more");
+                self.note(answer.value("pairs") == 240, letter, "all 240 arrows needed");
+                self.note(deepest >= 3, letter, "depth 3 or more");
+                self.note(deepest >= 50, letter, "depth 50 or more");
+                self.note(answer.value("reach") < request.value("states"), letter, "states out of reach");
+            }
+            b'P' => self.see_purge(request, answer),
+            b'S' => {
+                let all = answer.value("count") == request.value("states");
+                self.note(true, letter, if all { "all states reached" } else { "states out of reach" });
+            }
+            _ => self.see_verdict(request, answer),
+        }
+    }
+
+    fn see_purge(&mut self, request: &Message, answer: &Message) {
+        let length = request.values("run").len() as u64;
+        let kept = answer.value("kept");
+        let kind = ["plain", "intransitive"][request.value("kind") as usize];
+        self.note(length > 0 && kept == 0, b'P', &format!("{kind}: nothing kept"));
+        self.note(kept < length, b'P', &format!("{kind}: something dropped"));
+        self.note(length == 1_024, b'P', &format!("{kind}: a run of 1,024 actions"));
+        let same = request.parts.iter().filter(|part| part.name != "kind").flat_map(|part| part.values.iter().flat_map(|value| value.to_le_bytes()));
+        let same: Vec<u8> = same.collect();
+        self.note(kind == "intransitive" && self.plain.0 == same && kept > self.plain.1, b'P', "intransitive keeps more than plain");
+        if kind == "plain" {
+            self.plain = (same, kept);
+        }
+    }
+
+    fn see_verdict(&mut self, request: &Message, answer: &Message) {
+        self.note(request.value("verdict bytes") != 8_192, b'V', "a buffer of the wrong length");
+        let length = answer.value("length") as usize;
+        let text: String = answer.values("verdict").iter().take(length).map(|&value| value as u8 as char).collect();
+        let mut words = text.split(['\t', '\n']);
+        match (words.next(), words.next(), words.next()) {
+            (Some("refused"), Some(number), _) => self.note(true, b'V', &format!("refusal {number}")),
+            (Some("views"), Some("accepted"), _) => self.note(true, b'V', "accepted"),
+            (Some("views"), Some("broken"), Some(condition)) => self.note(true, b'V', &format!("broken at {condition}")),
+            _ => return,
+        }
+        let needed = text.lines().filter(|line| line.starts_with("need\t")).count();
+        self.note(text.starts_with("views") && needed == 0, b'V', "no needed arrow");
+        self.note(needed >= 20, b'V', "20 needed arrows or more");
+    }
+}
+
+/// Prints how often each of the wanted answers came, and says whether each did at least twice.
+pub fn census(requests: &str, command: &str) -> io::Result<bool> {
+    let mut source = BufReader::with_capacity(1 << 16, File::open(requests)?);
+    let mut speaker = Speaker::start(command, requests)?;
+    let mut census = Census::default();
+    while let Some(request) = Message::request(&mut source)? {
+        let answer = Message::answer(&mut speaker.answers, request.letter)?;
+        census.see(&request, &answer);
+    }
+    speaker.end()?;
+    let refusals = REFUSALS.iter().flat_map(|(letter, numbers)| numbers.iter().map(move |number| format!("{letter} refusal {number}")));
+    let mut covered = true;
+    for wanted in refusals.chain(EVENTS.map(str::to_string)) {
+        let count = census.counts.get(&wanted).copied().unwrap_or(0);
+        if count < 2 {
+            println!("{wanted}: {count} times, too few");
+            covered = false;
+        } else {
+            println!("{wanted}: {count} times");
+        }
+    }
+    Ok(covered)
+}

@@ -1,0 +1,65 @@
+# shellcheck shell=bash
+# Sourced by the host tests, at the repository's top: compilers, the emulator, and what several of them build.
+
+folder=target/tests
+archive=target/staticlib/libzarpalume.a
+mkdir -p "$folder"
+source tools/compilers.sh
+
+# want COMMAND PACKAGE...: installs the packages where the command is missing, one test at a time.
+want() {
+  command -v "$1" >/dev/null && return
+  (
+    flock 9
+    apt-get install -y "${@:2}" || { apt-get update && apt-get install -y "${@:2}"; }
+  ) >/dev/null 2>&1 9>"$folder/lock"
+  command -v "$1" >/dev/null || { echo "$1 is missing, and apt-get install ${*:2} did not bring it"; return 1; }
+}
+
+want_compilers() {
+  want "$c_compiler" "${compiler_packages[@]}" && want "$cpp_compiler" "${compiler_packages[@]}" &&
+    { ((${#emulator[@]} == 0)) || want "${emulator[0]}" qemu-user; }
+}
+
+# The proved library; the first host test that asks has it built.
+make_archive() {
+  tools/fresh "$archive" rt staticlib zarpalume >"$folder/staticlib.log" 2>&1 || { cat "$folder/staticlib.log"; return 1; }
+}
+
+# make_rust NAME SOURCE...: a Rust program of the tests, from the first of its sources.
+make_rust() {
+  local made=$folder/$1 source
+  want rustc rustc || return 1
+  for source in "${@:2}"; do
+    if [[ ! $made -nt $source ]]; then
+      rustc -O --edition 2021 -o "$made" "$2"
+      return
+    fi
+  done
+}
+
+make_second() {
+  make_rust second tests/second/second.rs tests/second/selftest.rs
+}
+
+make_requests() {
+  make_rust requests tests/requests/main.rs tests/requests/*.rs
+}
+
+# The verdict requests, and the second program's answers to them.
+make_answers() {
+  make_second && make_requests &&
+    "$folder/requests" make 1 4000 letters=V >"$folder/requests.bin" && "$folder/second" serve <"$folder/requests.bin" >"$folder/second.bin"
+}
+
+# make_program NAME: a proved program, which the gate has built already.
+make_program() {
+  want_compilers || return 1
+  tools/fresh "target/bin/$1" rt check "$1" >"$folder/$1.log" 2>&1 || { cat "$folder/$1.log"; return 1; }
+}
+
+# Prints the last line that the gate reads, and ends the test.
+finish() { # PASSED FAILED
+  echo "$1 passed, $2 failed"
+  exit $(($2 > 0))
+}
