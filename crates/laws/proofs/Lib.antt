@@ -1,5 +1,6 @@
 pub mod Tests
 pub mod Search
+pub mod Order
 pub mod Nested
 pub mod Range
 pub mod Count

@@ -9,3 +9,4 @@ pub mod Reached
 pub mod Ascending
 pub mod NeededList
 pub mod Paths
+pub mod Place

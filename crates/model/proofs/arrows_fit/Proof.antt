@@ -18,43 +18,12 @@ Inv-sources boxes arrows v₀ v = (v ≤ BOXES) × Held v (λ v. every BOXES (λ
 abbrev μ-sources : tie.MeasureT-sources
 μ-sources boxes arrows v₀ v = BOXES - v
 
-sources-holds : tie.Need-sources-holds Inv-sources μ-sources
-sources-holds c = search each
-
-slice-aggregate-targets-fit : tie.Need-slice-aggregate-targets-fit Inv-sources μ-sources
-slice-aggregate-targets-fit c = search needs
-
-targets-fit-requires : tie.Need-targets-fit-requires Inv-sources μ-sources
-targets-fit-requires c κs = search each
-
-add-v : tie.Need-add-v Inv-sources μ-sources
-add-v c = search each
-
-sources-less : tie.Need-sources-less Inv-sources μ-sources
-sources-less c = search each
-
-sources-again : tie.Need-sources-again Inv-sources μ-sources
-sources-again c = search each
-
-returns : tie.Need-returns Inv-sources μ-sources
-unfolding arrowsFit
-returns c = search each
-
-returns-2 : tie.Need-returns-2 Inv-sources μ-sources
-unfolding arrowsFit
-returns-2 c = search each
-
 pub arrows-fit-spec : {M : Type 1} → statement M
+unfolding arrowsFit
 arrows-fit-spec =
     tie.close
     (tie.spec
     Inv-sources
     μ-sources
-    sources-holds
-    slice-aggregate-targets-fit
-    targets-fit-requires
-    add-v
-    sources-less
-    sources-again
-    returns
-    returns-2)
+    (λ c. search each) (λ c. search needs) (λ c κs. search each) (λ c. search each) (λ c. search each) (λ c. search each) (λ c. search each)
+    (λ c. search each))

@@ -4,17 +4,6 @@ use borrow.Author.Needs.{needs}
 use Rattle.model.proofs.id.Statement.{statement}
 use Rattle.model.proofs.id.Tie as tie
 
-mul-result : tie.Need-mul-result
-mul-result c = search needs
-
-shared-slice-read-result : tie.Need-shared-slice-read-result
-shared-slice-read-result c = search needs
-
-returns : tie.Need-returns
-returns c = search needs
-
-returns-2 : tie.Need-returns-2
-returns-2 c = search (beyond, needs)
-
 pub id-spec : {M : Type 1} → statement M
-id-spec = tie.close (tie.spec mul-result shared-slice-read-result returns returns-2)
+id-spec = tie.close (tie.spec
+    (λ c. search needs) (λ c. search needs) (λ c. search needs) (λ c. search (beyond, needs)))

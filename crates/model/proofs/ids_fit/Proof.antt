@@ -18,56 +18,12 @@ Inv-boxes boxes ids u₀ u = (u ≤ boxes) × Held u (λ u. both (leb (getD ids 
 abbrev μ-boxes : tie.MeasureT-boxes
 μ-boxes boxes ids u₀ u = boxes - u
 
-boxes-holds : tie.Need-boxes-holds Inv-boxes μ-boxes
-boxes-holds c = search each
-
-slice-aggregate-id : tie.Need-slice-aggregate-id Inv-boxes μ-boxes
-slice-aggregate-id c = search needs
-
-id-requires : tie.Need-id-requires Inv-boxes μ-boxes
-id-requires c κs = search each
-
-returns : tie.Need-returns Inv-boxes μ-boxes
-unfolding idsFit
-returns c = search each
-
-slice-aggregate-id-is-new : tie.Need-slice-aggregate-id-is-new Inv-boxes μ-boxes
-slice-aggregate-id-is-new c = search needs
-
-id-is-new-requires : tie.Need-id-is-new-requires Inv-boxes μ-boxes
-id-is-new-requires c κs = search each
-
-add-u : tie.Need-add-u Inv-boxes μ-boxes
-add-u c = search each
-
-boxes-less : tie.Need-boxes-less Inv-boxes μ-boxes
-boxes-less c = search each
-
-boxes-again : tie.Need-boxes-again Inv-boxes μ-boxes
-boxes-again c = search each
-
-returns-2 : tie.Need-returns-2 Inv-boxes μ-boxes
-unfolding idsFit
-returns-2 c = search each
-
-returns-3 : tie.Need-returns-3 Inv-boxes μ-boxes
-unfolding idsFit
-returns-3 c = search each
-
 pub ids-fit-spec : {M : Type 1} → statement M
+unfolding idsFit
 ids-fit-spec =
     tie.close
     (tie.spec
     Inv-boxes
     μ-boxes
-    boxes-holds
-    slice-aggregate-id
-    id-requires
-    returns
-    slice-aggregate-id-is-new
-    id-is-new-requires
-    add-u
-    boxes-less
-    boxes-again
-    returns-2
-    returns-3)
+    (λ c. search each) (λ c. search needs) (λ c κs. search each) (λ c. search each) (λ c. search needs) (λ c κs. search each) (λ c. search each)
+    (λ c. search each) (λ c. search each) (λ c. search each) (λ c. search each))

@@ -18,9 +18,6 @@ Inv-states next states actions s₀ s = (s ≤ states) × Held s (λ s. every ac
 abbrev μ-states : tie.MeasureT-states
 μ-states next states actions s₀ s = states - s
 
-states-holds : tie.Need-states-holds Inv-states μ-states
-states-holds c = search each
-
 mul-row-fits : tie.Need-mul-row-fits Inv-states μ-states
 mul-row-fits c =
     let c3 = c .before .before .before in
@@ -32,34 +29,14 @@ row-fits-requires c κs =
     let c3 = c .before .before .before in
     (row STATES ACTIONS (c .states-test .taken) (c3 .pre .0) (c3 .pre .1), c3 .pre .1)
 
-add-s : tie.Need-add-s Inv-states μ-states
-add-s c = search each
-
-states-less : tie.Need-states-less Inv-states μ-states
-states-less c = search each
-
-states-again : tie.Need-states-again Inv-states μ-states
-states-again c = search each
-
-returns : tie.Need-returns Inv-states μ-states
-unfolding nextFits
-returns c = search each
-
-returns-2 : tie.Need-returns-2 Inv-states μ-states
-unfolding nextFits
-returns-2 c = search each
-
 pub next-fits-spec : {M : Type 1} → statement M
+unfolding nextFits
 next-fits-spec =
     tie.close
     (tie.spec
     Inv-states
     μ-states
-    states-holds
+    (λ c. search each)
     mul-row-fits
     row-fits-requires
-    add-s
-    states-less
-    states-again
-    returns
-    returns-2)
+    (λ c. search each) (λ c. search each) (λ c. search each) (λ c. search each) (λ c. search each))

@@ -23,9 +23,6 @@ states-holds c = (omega arith, copied-none refl)
 contains-requires : tie.Need-contains-requires Inv-states μ-states
 contains-requires c κs = tt
 
-array-write-flags : tie.Need-array-write-flags Inv-states μ-states
-array-write-flags c = search needs
-
 add-s : tie.Need-add-s Inv-states μ-states
 add-s c = omega arith
 
@@ -48,7 +45,7 @@ flags-of-spec =
     μ-states
     states-holds
     contains-requires
-    array-write-flags
+    (λ c. search needs)
     add-s
     states-less
     states-again

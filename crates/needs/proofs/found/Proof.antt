@@ -24,9 +24,6 @@ write-list-requires c κs = let q = c .before .before .before .before .before .b
 count-requires : tie.Need-count-requires
 count-requires c κs = tt
 
-same-length : tie.Need-same-length
-same-length c = search needs
-
 returns : tie.Need-returns
 returns c =
     let q = c .before .before .before .before .before .before .before .before .before .before .before .before .before .before .pre in
@@ -41,5 +38,5 @@ found-spec =
     sort-requires
     write-list-requires
     count-requires
-    same-length
+    (λ c. search needs)
     returns)

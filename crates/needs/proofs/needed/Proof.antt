@@ -50,17 +50,8 @@ clear-requires c κs = tt
 reached-requires : tie.Need-reached-requires
 reached-requires c κs = tt
 
-enum-told : tie.Need-enum-told
-enum-told c = search needs
-
-enum-told-2 : tie.Need-enum-told-2
-enum-told-2 c = search needs
-
 refused-requires-4 : tie.Need-refused-requires-4
 refused-requires-4 c κs = tt
-
-same-length : tie.Need-same-length
-same-length c = search needs
 
 returns-4 : tie.Need-returns-4
 returns-4 c =
@@ -84,9 +75,6 @@ found-requires c κs =
     let o = c .before .before .before .before .reached .ensures in
     let f = found-fits (g .machine) (g .next .now) d (sym (o .0) ∙ told-found _ (c .before .before .before .match .keys1)) in
     (record { good = table-good (g .machine) (g .next .now) .0 f; next-long = d; outputs-long = a }, (known-of (g .machine) (g .next .now) (g .outputs .now) _ d f (o .1), cleared (g .list .now) (c .before .before .before .before .before .before .before .clear .ensures) b))
-
-same-length-2 : tie.Need-same-length-2
-same-length-2 c = search needs
 
 returns-5 : tie.Need-returns-5
 returns-5 c =
@@ -112,11 +100,10 @@ needed-spec =
     returns-3
     clear-requires
     reached-requires
-    enum-told
-    enum-told-2
+    (λ c. search needs) (λ c. search needs)
     refused-requires-4
-    same-length
+    (λ c. search needs)
     returns-4
     found-requires
-    same-length-2
+    (λ c. search needs)
     returns-5)

@@ -4,15 +4,6 @@ use Rattle.purge.proofs.Told.{added-plain, added-intransitive}
 use Rattle.purge.proofs.added.Statement.{statement}
 use Rattle.purge.proofs.added.Tie as tie
 
-enum-told : tie.Need-enum-told
-enum-told c = search needs
-
-enum-told-2 : tie.Need-enum-told-2
-enum-told-2 c = search needs
-
-all-interferers-requires : tie.Need-all-interferers-requires
-all-interferers-requires c κs = search needs
-
 returns : tie.Need-returns
 returns c = added-plain (c .before .before .args .kind) (c .before .before .args .arrows .now) (c .before .match .keys1)
 
@@ -22,4 +13,7 @@ returns-2 c =
     added-intransitive (a .kind) (a .arrows .now) (c .all-interferers .result) (c .before .before .match .keys2) (c .all-interferers .ensures)
 
 pub added-spec : {M : Type 1} → statement M
-added-spec = tie.close (tie.spec enum-told enum-told-2 all-interferers-requires returns returns-2)
+added-spec = tie.close (tie.spec
+    (λ c. search needs) (λ c. search needs) (λ c κs. search needs)
+    returns
+    returns-2)

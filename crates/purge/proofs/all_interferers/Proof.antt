@@ -21,21 +21,6 @@ abbrev μ-boxes : tie.MeasureT-boxes
 boxes-holds : tie.Need-boxes-holds Inv-boxes μ-boxes
 boxes-holds c = (omega arith, refl, filled-none _ _)
 
-interferers-requires : tie.Need-interferers-requires Inv-boxes μ-boxes
-interferers-requires c κs = search needs
-
-mul-sets : tie.Need-mul-sets Inv-boxes μ-boxes
-mul-sets c = search needs
-
-array-write-sets : tie.Need-array-write-sets Inv-boxes μ-boxes
-array-write-sets c = search needs
-
-add-u : tie.Need-add-u Inv-boxes μ-boxes
-add-u c = search needs
-
-boxes-less : tie.Need-boxes-less Inv-boxes μ-boxes
-boxes-less c = search needs
-
 boxes-again : tie.Need-boxes-again Inv-boxes μ-boxes
 boxes-again c =
     let b = c .before .before .boxes in
@@ -51,10 +36,6 @@ all-interferers-spec =
     Inv-boxes
     μ-boxes
     boxes-holds
-    interferers-requires
-    mul-sets
-    array-write-sets
-    add-u
-    boxes-less
+    (λ c κs. search needs) (λ c. search needs) (λ c. search needs) (λ c. search needs) (λ c. search needs)
     boxes-again
     returns)

@@ -6,12 +6,6 @@ use Rattle.purge.proofs.Sets.{has-beyond}
 use Rattle.purge.proofs.contains.Statement.{statement}
 use Rattle.purge.proofs.contains.Tie as tie
 
-cast-result : tie.Need-cast-result
-cast-result c = search needs
-
-shr-result : tie.Need-shr-result
-shr-result c = search needs
-
 returns : tie.Need-returns
 unfolding has
 returns c = refl
@@ -20,4 +14,7 @@ returns-2 : tie.Need-returns-2
 returns-2 c = sym (has-beyond _ _ (c .before .fits .set .fits) (c .if1 .left))
 
 pub contains-spec : {M : Type 1} → statement M
-contains-spec = tie.close (tie.spec cast-result shr-result returns returns-2)
+contains-spec = tie.close (tie.spec
+    (λ c. search needs) (λ c. search needs)
+    returns
+    returns-2)

@@ -19,12 +19,6 @@ actions-holds c = gathered-start _
 slice-read-action : tie.Need-slice-read-action Inv-actions μ-actions
 slice-read-action c = let h = gathered-length _ _ _ _ (c .before .before .actions .inv) in omega arith
 
-add-i : tie.Need-add-i Inv-actions μ-actions
-add-i c = search needs
-
-actions-less : tie.Need-actions-less Inv-actions μ-actions
-actions-less c = search needs
-
 actions-again : tie.Need-actions-again Inv-actions μ-actions
 actions-again c = gathered-dropped _ _ _ _ (c .before .before .before .actions .inv) (search needs) (c .if1 .taken)
 
@@ -40,12 +34,6 @@ slice-write-kept-2 c =
 
 add-count : tie.Need-add-count Inv-actions μ-actions
 add-count c = let l = gathered-below _ _ _ _ (c .before .before .before .actions .inv) in omega arith
-
-add-i-2 : tie.Need-add-i-2 Inv-actions μ-actions
-add-i-2 c = search needs
-
-actions-less-2 : tie.Need-actions-less-2 Inv-actions μ-actions
-actions-less-2 c = search needs
 
 actions-again-2 : tie.Need-actions-again-2 Inv-actions μ-actions
 actions-again-2 c = gathered-kept _ _ _ _ (c .before .before .before .actions .inv) (search needs) (c .if1 .left)
@@ -64,14 +52,12 @@ gather-spec =
     μ-actions
     actions-holds
     slice-read-action
-    add-i
-    actions-less
+    (λ c. search needs) (λ c. search needs)
     actions-again
     slice-write-kept
     slice-write-kept-2
     add-count
-    add-i-2
-    actions-less-2
+    (λ c. search needs) (λ c. search needs)
     actions-again-2
     same-length
     returns)

@@ -16,33 +16,11 @@ Inv-boxes arrows u set₀ v₀ set v = (v ≤ 16) × (set ≡ pack (λ w. getD a
 abbrev μ-boxes : tie.MeasureT-boxes
 μ-boxes arrows u set₀ v₀ set v = v
 
-boxes-holds : tie.Need-boxes-holds Inv-boxes μ-boxes
-unfolding pack
-boxes-holds c = search needs
-
-sub-v : tie.Need-sub-v Inv-boxes μ-boxes
-sub-v c = search needs
-
 mul-set : tie.Need-mul-set Inv-boxes μ-boxes
 mul-set c = let h = pack-fits _ _ _ (omega arith) (c .before .boxes .inv .1) in omega arith
 
-mul-bit : tie.Need-mul-bit Inv-boxes μ-boxes
-mul-bit c = search needs
-
-add-bit : tie.Need-add-bit Inv-boxes μ-boxes
-add-bit c = search needs
-
-element-copy-out-bit : tie.Need-element-copy-out-bit Inv-boxes μ-boxes
-element-copy-out-bit c = search needs
-
-bit-requires : tie.Need-bit-requires Inv-boxes μ-boxes
-bit-requires c κs = search needs
-
 add-set : tie.Need-add-set Inv-boxes μ-boxes
 add-set c = let h = pack-fits _ _ _ (omega arith) (c .before .before .before .boxes .inv .1) in omega arith
-
-boxes-less : tie.Need-boxes-less Inv-boxes μ-boxes
-boxes-less c = search needs
 
 boxes-again : tie.Need-boxes-again Inv-boxes μ-boxes
 boxes-again c =
@@ -53,19 +31,16 @@ returns : tie.Need-returns Inv-boxes μ-boxes
 returns c = pack-end _ _ (c .boxes-test .left) (c .before .boxes .inv .1)
 
 pub interferers-spec : {M : Type 1} → statement M
+unfolding pack
 interferers-spec =
     tie.close
     (tie.spec
     Inv-boxes
     μ-boxes
-    boxes-holds
-    sub-v
+    (λ c. search needs) (λ c. search needs)
     mul-set
-    mul-bit
-    add-bit
-    element-copy-out-bit
-    bit-requires
+    (λ c. search needs) (λ c. search needs) (λ c. search needs) (λ c κs. search needs)
     add-set
-    boxes-less
+    (λ c. search needs)
     boxes-again
     returns)

@@ -4,20 +4,8 @@ use Rattle.purge.proofs.Written.{box-small, kept-written}
 use Rattle.purge.proofs.keep.Statement.{statement}
 use Rattle.purge.proofs.keep.Tie as tie
 
-added-requires : tie.Need-added-requires
-added-requires c κs = search needs
-
 interferers-requires : tie.Need-interferers-requires
 interferers-requires c κs = box-small _ _ _ (c .before .before .before .before .before .before .before .pre .0)
-
-mark-requires : tie.Need-mark-requires
-mark-requires c κs = search needs
-
-gather-requires : tie.Need-gather-requires
-gather-requires c κs = search needs
-
-same-length : tie.Need-same-length
-same-length c = search needs
 
 returns : tie.Need-returns
 returns c =
@@ -30,9 +18,7 @@ pub keep-spec : {M : Type 1} → statement M
 keep-spec =
     tie.close
     (tie.spec
-    added-requires
+    (λ c κs. search needs)
     interferers-requires
-    mark-requires
-    gather-requires
-    same-length
+    (λ c κs. search needs) (λ c κs. search needs) (λ c. search needs)
     returns)

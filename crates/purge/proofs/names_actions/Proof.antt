@@ -15,43 +15,12 @@ Inv-run run actions i₀ i-end i = (i ≤ i-end) × Held i (λ i. ltb (getD run 
 abbrev μ-run : tie.MeasureT-run
 μ-run run actions i₀ i-end i = i-end - i
 
-run-holds : tie.Need-run-holds Inv-run μ-run
-run-holds c = search each
-
-shared-slice-read-wide : tie.Need-shared-slice-read-wide Inv-run μ-run
-shared-slice-read-wide c = search needs
-
-wide-requires : tie.Need-wide-requires Inv-run μ-run
-wide-requires c κs = search needs
-
-returns : tie.Need-returns Inv-run μ-run
-unfolding namesActions
-returns c = search each
-
-add-i : tie.Need-add-i Inv-run μ-run
-add-i c = search each
-
-run-less : tie.Need-run-less Inv-run μ-run
-run-less c = search each
-
-run-again : tie.Need-run-again Inv-run μ-run
-run-again c = search each
-
-returns-2 : tie.Need-returns-2 Inv-run μ-run
-unfolding namesActions
-returns-2 c = search each
-
 pub names-actions-spec : {M : Type 1} → statement M
+unfolding namesActions
 names-actions-spec =
     tie.close
     (tie.spec
     Inv-run
     μ-run
-    run-holds
-    shared-slice-read-wide
-    wide-requires
-    returns
-    add-i
-    run-less
-    run-again
-    returns-2)
+    (λ c. search each) (λ c. search needs) (λ c κs. search needs) (λ c. search each) (λ c. search each) (λ c. search each) (λ c. search each)
+    (λ c. search each))

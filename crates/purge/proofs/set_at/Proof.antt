@@ -3,17 +3,6 @@ use Rattle.laws.proofs.Cells.{beyond}
 use Rattle.purge.proofs.set_at.Statement.{statement}
 use Rattle.purge.proofs.set_at.Tie as tie
 
-mul-result : tie.Need-mul-result
-mul-result c = search needs
-
-shared-slice-read-result : tie.Need-shared-slice-read-result
-shared-slice-read-result c = search needs
-
-returns : tie.Need-returns
-returns c = search needs
-
-returns-2 : tie.Need-returns-2
-returns-2 c = search (beyond, needs)
-
 pub set-at-spec : {M : Type 1} → statement M
-set-at-spec = tie.close (tie.spec mul-result shared-slice-read-result returns returns-2)
+set-at-spec = tie.close (tie.spec
+    (λ c. search needs) (λ c. search needs) (λ c. search needs) (λ c. search (beyond, needs)))

@@ -9,16 +9,12 @@ use Rattle.laws.proofs.Cells.{beyond}
 use Rattle.reach.proofs.contains.Statement.{statement}
 use Rattle.reach.proofs.contains.Tie as tie
 
-element-copy-out-result : tie.Need-element-copy-out-result
-element-copy-out-result c = search needs
-
-returns : tie.Need-returns
-returns c = search needs
-
 returns-2 : tie.Need-returns-2
 returns-2 c =
     let h : length (listed (c .before .args .t1)) ≡ 128 = search needs in
     beyond (listed (c .before .args .t1)) _ false (omega arith)
 
 pub contains-spec : {M : Type 1} → statement M
-contains-spec = tie.close (tie.spec element-copy-out-result returns returns-2)
+contains-spec = tie.close (tie.spec
+    (λ c. search needs) (λ c. search needs)
+    returns-2)

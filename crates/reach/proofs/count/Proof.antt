@@ -21,26 +21,11 @@ abbrev μ-states : tie.MeasureT-states
 states-holds : tie.Need-states-holds Inv-states μ-states
 states-holds c = (omega arith, count-begun _)
 
-element-copy-out-if1 : tie.Need-element-copy-out-if1 Inv-states μ-states
-element-copy-out-if1 c = search needs
-
 add-n : tie.Need-add-n Inv-states μ-states
 add-n c = omega (arith, count-le (c .before .before .before .states .s) (has (c .before .before .before .before .args .t1)))
 
-add-s : tie.Need-add-s Inv-states μ-states
-add-s c = search needs
-
-states-less : tie.Need-states-less Inv-states μ-states
-states-less c = search needs
-
 states-again : tie.Need-states-again Inv-states μ-states
 states-again c = (omega arith, count-yes (has (c .before .before .before .before .args .t1)) (c .before .before .before .states .inv .1) (c .if1 .taken))
-
-add-s-2 : tie.Need-add-s-2 Inv-states μ-states
-add-s-2 c = search needs
-
-states-less-2 : tie.Need-states-less-2 Inv-states μ-states
-states-less-2 c = search needs
 
 states-again-2 : tie.Need-states-again-2 Inv-states μ-states
 states-again-2 c = (omega arith, count-no (has (c .before .before .before .before .args .t1)) (c .before .before .before .states .inv .1) (c .if1 .left))
@@ -55,12 +40,10 @@ count-spec =
     Inv-states
     μ-states
     states-holds
-    element-copy-out-if1
+    (λ c. search needs)
     add-n
-    add-s
-    states-less
+    (λ c. search needs) (λ c. search needs)
     states-again
-    add-s-2
-    states-less-2
+    (λ c. search needs) (λ c. search needs)
     states-again-2
     returns)

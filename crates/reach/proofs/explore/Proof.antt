@@ -21,9 +21,6 @@ array-write-flags c =
     let g = c .before .pre .machine in
     omega (arith, g .start-in, g .states-most)
 
-array-write-work : tie.Need-array-write-work Inv-work μ-work
-array-write-work c = search needs
-
 work-holds : tie.Need-work-holds Inv-work μ-work
 work-holds c = (c .before .pre, explored-start (c .before .pre))
 
@@ -53,7 +50,7 @@ explore-spec =
     Inv-work
     μ-work
     array-write-flags
-    array-write-work
+    (λ c. search needs)
     work-holds
     look-requires
     add-done

@@ -32,19 +32,10 @@ mul-at c = let i = c .before .before .actions .inv in omega (arith, next-row (i 
 add-at : tie.Need-add-at Inv-actions μ-actions
 add-at c = let i = c .before .before .actions .inv in omega (arith, next-cell (i .2) (i .3) (omega arith))
 
-at-requires : tie.Need-at-requires Inv-actions μ-actions
-at-requires c κs = search needs
-
 element-copy-out-if1 : tie.Need-element-copy-out-if1 Inv-actions μ-actions
 element-copy-out-if1 c =
     let i = c .before .before .before .actions .inv in
     omega (arith, next-small (i .2) (i .3) (omega arith) (c .at .ensures), i .2 .machine .states-most)
-
-add-a : tie.Need-add-a Inv-actions μ-actions
-add-a c = search needs
-
-actions-less : tie.Need-actions-less Inv-actions μ-actions
-actions-less c = search needs
 
 actions-again : tie.Need-actions-again Inv-actions μ-actions
 actions-again c =
@@ -72,12 +63,6 @@ add-n c =
     let i = c .before .before .before .before .before .actions .inv in
     omega (arith, room (i .2) (i .3) (omega arith) (c .before .before .at .ensures) (c .if1 .left), i .2 .machine .states-most)
 
-add-a-2 : tie.Need-add-a-2 Inv-actions μ-actions
-add-a-2 c = search needs
-
-actions-less-2 : tie.Need-actions-less-2 Inv-actions μ-actions
-actions-less-2 c = search needs
-
 actions-again-2 : tie.Need-actions-again-2 Inv-actions μ-actions
 actions-again-2 c =
     let t = c .before .before .before .before in
@@ -98,16 +83,14 @@ look-spec =
     actions-holds
     mul-at
     add-at
-    at-requires
+    (λ c κs. search needs)
     element-copy-out-if1
-    add-a
-    actions-less
+    (λ c. search needs) (λ c. search needs)
     actions-again
     element-write-flags
     mul-work
     element-write-work
     add-n
-    add-a-2
-    actions-less-2
+    (λ c. search needs) (λ c. search needs)
     actions-again-2
     returns)

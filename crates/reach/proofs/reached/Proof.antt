@@ -7,17 +7,11 @@ use Rattle.reach.proofs.Answered.{outcome-length, outcome-rules, outcom
 use Rattle.reach.proofs.reached.Statement.{statement}
 use Rattle.reach.proofs.reached.Tie as tie
 
-refused-requires : tie.Need-refused-requires
-refused-requires c κs = search needs
-
 returns : tie.Need-returns
 returns c =
     let r = c .refused .ensures in
     let n = c .before .if1 .taken in
     (r .0 ∙ outcome-length _ _ n, r .1 ∙ flags-length _ _ n)
-
-machine-table-fits-requires : tie.Need-machine-table-fits-requires
-machine-table-fits-requires c κs = search needs
 
 explore-requires : tie.Need-explore-requires
 explore-requires c κs = table-good _ _ .0 (sym (c .before .machine-table-fits .ensures) ∙ c .if2 .taken)
@@ -27,9 +21,6 @@ returns-2 c =
     let e = c .before .before .before .if1 .left in
     let f = sym (c .before .before .machine-table-fits .ensures) ∙ c .before .if2 .taken in
     (outcome-found _ _ e f, flags-found _ _ e f (c .explore .ensures))
-
-refused-requires-2 : tie.Need-refused-requires-2
-refused-requires-2 c κs = search needs
 
 returns-3 : tie.Need-returns-3
 returns-3 c =
@@ -42,10 +33,10 @@ pub reached-spec : {M : Type 1} → statement M
 reached-spec =
     tie.close
     (tie.spec
-    refused-requires
+    (λ c κs. search needs)
     returns
-    machine-table-fits-requires
+    (λ c κs. search needs)
     explore-requires
     returns-2
-    refused-requires-2
+    (λ c κs. search needs)
     returns-3)

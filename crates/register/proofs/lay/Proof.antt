@@ -15,27 +15,12 @@ abbrev μ-entries : tie.MeasureT-entries
 entries-holds : tie.Need-entries-holds Inv-entries μ-entries
 entries-holds c = copied-none _ _ (c .pre)
 
-mul-table : tie.Need-mul-table Inv-entries μ-entries
-mul-table c = search needs
-
-shared-slice-read-table : tie.Need-shared-slice-read-table Inv-entries μ-entries
-shared-slice-read-table c = search needs
-
-mul-table-2 : tie.Need-mul-table-2 Inv-entries μ-entries
-mul-table-2 c = search needs
-
 slice-write-table : tie.Need-slice-write-table Inv-entries μ-entries
 slice-write-table c =
     let e = c .before .before .entries in
     let h = copied-length _ _ _ _ (e .inv) in
     let r = e .inv .room in
     omega arith
-
-add-i : tie.Need-add-i Inv-entries μ-entries
-add-i c = search needs
-
-entries-less : tie.Need-entries-less Inv-entries μ-entries
-entries-less c = search needs
 
 entries-again : tie.Need-entries-again Inv-entries μ-entries
 entries-again c = copied-more _ _ _ _ (c .before .before .entries .inv) (c .before .entries-test .taken)
@@ -53,12 +38,9 @@ lay-spec =
     Inv-entries
     μ-entries
     entries-holds
-    mul-table
-    shared-slice-read-table
-    mul-table-2
+    (λ c. search needs) (λ c. search needs) (λ c. search needs)
     slice-write-table
-    add-i
-    entries-less
+    (λ c. search needs) (λ c. search needs)
     entries-again
     same-length
     returns)

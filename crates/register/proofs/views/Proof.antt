@@ -4,18 +4,11 @@ use Rattle.register.specs.Tables.{byBox}
 use Rattle.register.proofs.views.Statement.{statement}
 use Rattle.register.proofs.views.Tie as tie
 
-slice-aggregate-lay : tie.Need-slice-aggregate-lay
-slice-aggregate-lay c = search needs
-
-slice-aggregate-lay-2 : tie.Need-slice-aggregate-lay-2
-slice-aggregate-lay-2 c = search needs
-
-lay-requires : tie.Need-lay-requires
-lay-requires c κs = search needs
-
 returns : tie.Need-returns
 unfolding byBox
 returns c = c .before .lay .ensures
 
 pub views-spec : {M : Type 1} → statement M
-views-spec = tie.close (tie.spec slice-aggregate-lay slice-aggregate-lay-2 lay-requires returns)
+views-spec = tie.close (tie.spec
+    (λ c. search needs) (λ c. search needs) (λ c κs. search needs)
+    returns)

@@ -4,12 +4,6 @@ use borrow.Author.Needs.{needs}
 use Rattle.sheet.proofs.answered.Statement.{statement}
 use Rattle.sheet.proofs.answered.Tie as tie
 
-enum-known-phase : tie.Need-enum-known-phase
-enum-known-phase c = search needs
-
-enum-known-phase-2 : tie.Need-enum-known-phase-2
-enum-known-phase-2 c = search needs
-
 returns : tie.Need-returns
 returns c p = rw (c .before .before .phase2 .given .1, line-next (c .before .before .before .before .pre) _ (c .if1 .taken))
 
@@ -21,4 +15,8 @@ returns-3 c p = rw (c .before .before .phase2 .given .1, no-lines (c .before .be
 
 pub answered-spec : {M : Type 1} → statement M
 answered-spec =
-    tie.close (tie.spec enum-known-phase enum-known-phase-2 returns returns-2 returns-3)
+    tie.close (tie.spec
+    (λ c. search needs) (λ c. search needs)
+    returns
+    returns-2
+    returns-3)

@@ -10,43 +10,19 @@ use borrow.Author.Needs.{needs}
 use Rattle.sheet.proofs.read_text.Statement.{statement}
 use Rattle.sheet.proofs.read_text.Tie as tie
 
-refused-requires : tie.Need-refused-requires
-refused-requires c κs = search needs
-
 returns : tie.Need-returns
 unfolding sheetText
 returns c = rw (c .refused .ensures, le-ltb 0 (length (c .before .before .before .before .before .before .args .text .now)) (omega arith))
-
-refused-requires-2 : tie.Need-refused-requires-2
-refused-requires-2 c κs = search needs
 
 returns-2 : tie.Need-returns-2
 unfolding sheetText
 returns-2 c = rw (c .refused2 .ensures, lt-ltb 0 (length (c .before .before .before .before .before .before .before .args .text .now)) (omega arith), lt-leb _ _ (c .before .if2 .taken))
 
-sub-if3 : tie.Need-sub-if3
-sub-if3 c = search needs
-
-shared-slice-read-if3 : tie.Need-shared-slice-read-if3
-shared-slice-read-if3 c = search needs
-
 read-lines-requires : tie.Need-read-lines-requires
 read-lines-requires c κs = (record { last = c .before .before .before .if3 .taken }, (ap length (c .before .before .before .before .before .before .before .before .before .before .before .pre .0) ∙ zeros-length NEXT-ENTRIES, ap length (c .before .before .before .before .before .before .before .before .before .before .before .pre .1) ∙ zeros-length OUTPUT-ENTRIES, ap length (c .before .before .before .before .before .before .before .before .before .before .before .pre .2) ∙ zeros-length VIEW-ENTRIES))
 
-same-length : tie.Need-same-length
-same-length c = search needs
-
-same-length-2 : tie.Need-same-length-2
-same-length-2 c = search needs
-
-same-length-3 : tie.Need-same-length-3
-same-length-3 c = search needs
-
 returns-3 : tie.Need-returns-3
 returns-3 c = c .before .before .before .before .before .before .read-lines .ensures ∙ over-zeros (c .before .before .before .before .before .before .before .before .before .before .before .before .before .before .before .before .before .before .args .text .now) (c .before .before .before .before .before .before .before .before .before .before .before .before .before .before .before .before .before .before .args .next .now) (c .before .before .before .before .before .before .before .before .before .before .before .before .before .before .before .before .before .before .args .outputs .now) (c .before .before .before .before .before .before .before .before .before .before .before .before .before .before .before .before .before .before .args .views .now) (c .before .before .before .before .before .before .before .before .before .before .before .before .before .before .before .before .before .before .pre .0) (c .before .before .before .before .before .before .before .before .before .before .before .before .before .before .before .before .before .before .pre .1) (c .before .before .before .before .before .before .before .before .before .before .before .before .before .before .before .before .before .before .pre .2) (omega arith) (c .before .before .before .before .before .before .before .before .before .before .before .before .if2 .left) (c .before .before .before .before .before .before .before .before .before .before .if3 .taken)
-
-refused-requires-3 : tie.Need-refused-requires-3
-refused-requires-3 c κs = search needs
 
 returns-4 : tie.Need-returns-4
 unfolding sheetText
@@ -56,16 +32,13 @@ pub read-text-spec : {M : Type 1} → statement M
 read-text-spec =
     tie.close
     (tie.spec
-    refused-requires
+    (λ c κs. search needs)
     returns
-    refused-requires-2
+    (λ c κs. search needs)
     returns-2
-    sub-if3
-    shared-slice-read-if3
+    (λ c. search needs) (λ c. search needs)
     read-lines-requires
-    same-length
-    same-length-2
-    same-length-3
+    (λ c. search needs) (λ c. search needs) (λ c. search needs)
     returns-3
-    refused-requires-3
+    (λ c κs. search needs)
     returns-4)

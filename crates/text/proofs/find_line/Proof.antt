@@ -9,9 +9,6 @@ use Rattle.text.proofs.find_line.Tie as tie
 returns : tie.Need-returns
 returns c = simp (le-ltb _ _ (c .if1 .taken))
 
-line-end-requires : tie.Need-line-end-requires
-line-end-requires c κs = search needs
-
 add-t4 : tie.Need-add-t4
 add-t4 c = omega (arith, end-within (c .before .before .before .args .text .now) 10 (c .before .before .before .args .at) (omega arith), c .line-end .ensures)
 
@@ -19,4 +16,8 @@ returns-2 : tie.Need-returns-2
 returns-2 c = simp (lt-ltb _ _ (c .before .if1 .left), c .line-end .ensures)
 
 pub find-line-spec : {M : Type 1} → statement M
-find-line-spec = tie.close (tie.spec returns line-end-requires add-t4 returns-2)
+find-line-spec = tie.close (tie.spec
+    returns
+    (λ c κs. search needs)
+    add-t4
+    returns-2)

@@ -13,25 +13,19 @@ returns-2 : tie.Need-returns-2
 unfolding digit
 returns-2 c = simp (le-ltb _ _ (c .before .if1 .left), lt-ltb _ _ (c .if2 .taken))
 
-mul-v : tie.Need-mul-v
-mul-v c = search needs
-
-cast-v : tie.Need-cast-v
-cast-v c = search needs
-
-add-v : tie.Need-add-v
-add-v c = search needs
-
 returns-3 : tie.Need-returns-3
 unfolding digit
 returns-3 c = simp (le-ltb _ _ (c .before .before .if1 .left), le-ltb _ _ (c .before .if2 .left), lt-ltb _ _ (c .if3 .taken))
-
-cast-t10 : tie.Need-cast-t10
-cast-t10 c = search needs
 
 returns-4 : tie.Need-returns-4
 unfolding digit
 returns-4 c = simp (le-ltb _ _ (c .before .before .if1 .left), le-ltb _ _ (c .before .if2 .left), le-ltb _ _ (c .if3 .left))
 
 pub grown-spec : {M : Type 1} → statement M
-grown-spec = tie.close (tie.spec returns returns-2 mul-v cast-v add-v returns-3 cast-t10 returns-4)
+grown-spec = tie.close (tie.spec
+    returns
+    returns-2
+    (λ c. search needs) (λ c. search needs) (λ c. search needs)
+    returns-3
+    (λ c. search needs)
+    returns-4)

@@ -18,62 +18,20 @@ abbrev μ-loop : tie.MeasureT-loop
 loop-holds : tie.Need-loop-holds Inv-loop μ-loop
 loop-holds c = refl
 
-sub-if1 : tie.Need-sub-if1 Inv-loop μ-loop
-sub-if1 c = search needs
-
-find-requires : tie.Need-find-requires Inv-loop μ-loop
-find-requires c κs = search needs
-
 returns : tie.Need-returns Inv-loop μ-loop
 returns c = c .find .ensures ∙ c .before .before .before .loop .inv
-
-shared-slice-read-if2 : tie.Need-shared-slice-read-if2 Inv-loop μ-loop
-shared-slice-read-if2 c = search needs
 
 returns-2 : tie.Need-returns-2 Inv-loop μ-loop
 returns-2 c = sym (end-here _ _ _ (omega arith) (c .if2 .taken)) ∙ c .before .before .before .before .loop .inv
 
-add-if3 : tie.Need-add-if3 Inv-loop μ-loop
-add-if3 c = search needs
-
-shared-slice-read-if3 : tie.Need-shared-slice-read-if3 Inv-loop μ-loop
-shared-slice-read-if3 c = search needs
-
-add-result : tie.Need-add-result Inv-loop μ-loop
-add-result c = search needs
-
 returns-3 : tie.Need-returns-3 Inv-loop μ-loop
 returns-3 c = sym (end-here _ _ _ (omega arith) (c .if3 .taken)) ∙ end-next _ _ _ _ refl (omega arith) (c .before .before .if2 .left) ∙ c .before .before .before .before .before .before .loop .inv
-
-add-if4 : tie.Need-add-if4 Inv-loop μ-loop
-add-if4 c = search needs
-
-shared-slice-read-if4 : tie.Need-shared-slice-read-if4 Inv-loop μ-loop
-shared-slice-read-if4 c = search needs
-
-add-result-2 : tie.Need-add-result-2 Inv-loop μ-loop
-add-result-2 c = search needs
 
 returns-4 : tie.Need-returns-4 Inv-loop μ-loop
 returns-4 c = sym (end-here _ _ _ (omega arith) (c .if4 .taken)) ∙ end-next _ _ (c .before .before .before .before .before .before .before .before .loop .i + 1) _ (omega arith) (omega arith) (c .before .before .if3 .left) ∙ end-next _ _ (c .before .before .before .before .before .before .before .before .loop .i) _ (omega arith) (omega arith) (c .before .before .before .before .if2 .left) ∙ c .before .before .before .before .before .before .before .before .loop .inv
 
-add-if5 : tie.Need-add-if5 Inv-loop μ-loop
-add-if5 c = search needs
-
-shared-slice-read-if5 : tie.Need-shared-slice-read-if5 Inv-loop μ-loop
-shared-slice-read-if5 c = search needs
-
-add-result-3 : tie.Need-add-result-3 Inv-loop μ-loop
-add-result-3 c = search needs
-
 returns-5 : tie.Need-returns-5 Inv-loop μ-loop
 returns-5 c = sym (end-here _ _ _ (omega arith) (c .if5 .taken)) ∙ end-next _ _ (c .before .before .before .before .before .before .before .before .before .before .loop .i + 2) _ (omega arith) (omega arith) (c .before .before .if4 .left) ∙ end-next _ _ (c .before .before .before .before .before .before .before .before .before .before .loop .i + 1) _ (omega arith) (omega arith) (c .before .before .before .before .if3 .left) ∙ end-next _ _ (c .before .before .before .before .before .before .before .before .before .before .loop .i) _ (omega arith) (omega arith) (c .before .before .before .before .before .before .if2 .left) ∙ c .before .before .before .before .before .before .before .before .before .before .loop .inv
-
-add-i : tie.Need-add-i Inv-loop μ-loop
-add-i c = search needs
-
-loop-less : tie.Need-loop-less Inv-loop μ-loop
-loop-less c = search needs
 
 loop-again : tie.Need-loop-again Inv-loop μ-loop
 loop-again c = end-next _ _ (c .before .before .before .before .before .before .before .before .before .before .loop .i + 3) _ (omega arith) (omega arith) (c .if5 .left) ∙ end-next _ _ (c .before .before .before .before .before .before .before .before .before .before .loop .i + 2) _ (omega arith) (omega arith) (c .before .before .if4 .left) ∙ end-next _ _ (c .before .before .before .before .before .before .before .before .before .before .loop .i + 1) _ (omega arith) (omega arith) (c .before .before .before .before .if3 .left) ∙ end-next _ _ (c .before .before .before .before .before .before .before .before .before .before .loop .i) _ (omega arith) (omega arith) (c .before .before .before .before .before .before .if2 .left) ∙ c .before .before .before .before .before .before .before .before .before .before .loop .inv
@@ -88,24 +46,16 @@ line-end-spec =
     Inv-loop
     μ-loop
     loop-holds
-    sub-if1
-    find-requires
+    (λ c. search needs) (λ c κs. search needs)
     returns
-    shared-slice-read-if2
+    (λ c. search needs)
     returns-2
-    add-if3
-    shared-slice-read-if3
-    add-result
+    (λ c. search needs) (λ c. search needs) (λ c. search needs)
     returns-3
-    add-if4
-    shared-slice-read-if4
-    add-result-2
+    (λ c. search needs) (λ c. search needs) (λ c. search needs)
     returns-4
-    add-if5
-    shared-slice-read-if5
-    add-result-3
+    (λ c. search needs) (λ c. search needs) (λ c. search needs)
     returns-5
-    add-i
-    loop-less
+    (λ c. search needs) (λ c. search needs)
     loop-again
     returns-6)

@@ -23,32 +23,11 @@ abbrev μ-loop : tie.MeasureT-loop
 loop-holds : tie.Need-loop-holds Inv-loop μ-loop
 loop-holds c = record { some = c .before .pre; says = refl }
 
-shared-slice-read-byte : tie.Need-shared-slice-read-byte Inv-loop μ-loop
-shared-slice-read-byte c = search needs
-
-grown-requires : tie.Need-grown-requires Inv-loop μ-loop
-grown-requires c κs = search needs
-
-enum-known-v : tie.Need-enum-known-v Inv-loop μ-loop
-enum-known-v c = search needs
-
-enum-told : tie.Need-enum-told Inv-loop μ-loop
-enum-told c = search needs
-
 returns : tie.Need-returns Inv-loop μ-loop
 returns c = more-here _ _ _ (omega arith) _ (c .if1 .taken) ∙ c .before .before .before .before .before .before .loop .inv .says
 
-find-requires : tie.Need-find-requires Inv-loop μ-loop
-find-requires c κs = search needs
-
 returns-2 : tie.Need-returns-2 Inv-loop μ-loop
 returns-2 c = rw (c .find .ensures) (more-bad _ _ _ (omega arith) (c .before .if1 .left) _ (λ z. let p = c .before .before .before .before .before .before .before .loop .inv .some in omega arith) (sym (c .before .before .before .before .grown .ensures) ∙ c .before .before .enum-told .given .1) ∙ c .before .before .before .before .before .before .before .loop .inv .says)
-
-add-i : tie.Need-add-i Inv-loop μ-loop
-add-i c = search needs
-
-loop-less : tie.Need-loop-less Inv-loop μ-loop
-loop-less c = search needs
 
 loop-again : tie.Need-loop-again Inv-loop μ-loop
 loop-again c = let g = sym (c .before .before .before .grown .ensures) ∙ c .before .v .given .1 in let l = c .before .before .before .before .before .before .loop .inv in record { some = digit-some _ _ _ _ g (l .some); says = more-good _ _ _ (omega arith) (digit-no-tab _ _ _ _ g) _ _ (λ z. let p = l .some in omega arith) g ∙ l .says }
@@ -63,14 +42,10 @@ more-from-spec =
     Inv-loop
     μ-loop
     loop-holds
-    shared-slice-read-byte
-    grown-requires
-    enum-known-v
-    enum-told
+    (λ c. search needs) (λ c κs. search needs) (λ c. search needs) (λ c. search needs)
     returns
-    find-requires
+    (λ c κs. search needs)
     returns-2
-    add-i
-    loop-less
+    (λ c. search needs) (λ c. search needs)
     loop-again
     returns-3)

@@ -23,23 +23,8 @@ returns c = rw (lt-leb _ _ (c .if1 .taken)) (nothing _)
 loop-holds : tie.Need-loop-holds Inv-loop μ-loop
 loop-holds c = (search needs, refl, refl, omega arith)
 
-shared-slice-read-tail : tie.Need-shared-slice-read-tail Inv-loop μ-loop
-shared-slice-read-tail c = search needs
-
-slice-write-tail : tie.Need-slice-write-tail Inv-loop μ-loop
-slice-write-tail c = search needs
-
-add-i : tie.Need-add-i Inv-loop μ-loop
-add-i c = search needs
-
-loop-less : tie.Need-loop-less Inv-loop μ-loop
-loop-less c = search needs
-
 loop-again : tie.Need-loop-again Inv-loop μ-loop
 loop-again c = (omega arith, simp length-set (search needs), rw (c .before .before .loop .inv .2) (copy-more (c .before .before .before .before .args .bytes .now) (c .before .before .before .before .args .tail .now) (c .before .before .loop .i) (omega arith) (omega arith)), omega arith)
-
-same-length : tie.Need-same-length Inv-loop μ-loop
-same-length c = search needs
 
 returns-2 : tie.Need-returns-2 Inv-loop μ-loop
 returns-2 c = let all : c .before .loop .i ≡ length (c .before .before .before .args .bytes .now) = omega arith in
@@ -53,10 +38,7 @@ put-bytes-spec =
     μ-loop
     returns
     loop-holds
-    shared-slice-read-tail
-    slice-write-tail
-    add-i
-    loop-less
+    (λ c. search needs) (λ c. search needs) (λ c. search needs) (λ c. search needs)
     loop-again
-    same-length
+    (λ c. search needs)
     returns-2)

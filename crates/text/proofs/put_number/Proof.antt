@@ -56,47 +56,14 @@ abbrev μ-loop : tie.MeasureT-loop
 loop-holds : tie.Need-loop-holds Inv-loop μ-loop
 loop-holds c = record { within = omega arith; room = refl; short = omega arith; rest = append-nil _ }
 
-add-digits : tie.Need-add-digits Inv-loop μ-loop
-add-digits c = search needs
-
-cast-digits : tie.Need-cast-digits Inv-loop μ-loop
-cast-digits c = search needs
-
-array-write-digits : tie.Need-array-write-digits Inv-loop μ-loop
-array-write-digits c = search needs
-
 sub-i : tie.Need-sub-i Inv-loop μ-loop
 sub-i c = omega (arith, some (c .before .loop .inv) (omega arith))
-
-loop-less : tie.Need-loop-less Inv-loop μ-loop
-loop-less c = search needs
 
 loop-again : tie.Need-loop-again Inv-loop μ-loop
 loop-again c = again (c .before .loop .inv) (omega arith)
 
-add-digits-2 : tie.Need-add-digits-2 Inv-loop μ-loop
-add-digits-2 c = search needs
-
-cast-digits-2 : tie.Need-cast-digits-2 Inv-loop μ-loop
-cast-digits-2 c = search needs
-
-array-write-digits-2 : tie.Need-array-write-digits-2 Inv-loop μ-loop
-array-write-digits-2 c = search needs
-
-sub-put-bytes : tie.Need-sub-put-bytes Inv-loop μ-loop
-sub-put-bytes c = search needs
-
-part-put-bytes-start : tie.Need-part-put-bytes-start Inv-loop μ-loop
-part-put-bytes-start c = search needs
-
 part-put-bytes-end : tie.Need-part-put-bytes-end Inv-loop μ-loop
 part-put-bytes-end c = simp length-set (omega (arith, c .before .before .before .loop .inv .room))
-
-put-bytes-requires : tie.Need-put-bytes-requires Inv-loop μ-loop
-put-bytes-requires c κs = search needs
-
-same-length : tie.Need-same-length Inv-loop μ-loop
-same-length c = search needs
 
 returns : tie.Need-returns Inv-loop μ-loop
 returns c = rw (← last (c .before .before .before .before .before .before .before .loop .inv) (omega arith)) (c .before .before .put-bytes .ensures)
@@ -108,18 +75,11 @@ put-number-spec =
     Inv-loop
     μ-loop
     loop-holds
-    add-digits
-    cast-digits
-    array-write-digits
+    (λ c. search needs) (λ c. search needs) (λ c. search needs)
     sub-i
-    loop-less
+    (λ c. search needs)
     loop-again
-    add-digits-2
-    cast-digits-2
-    array-write-digits-2
-    sub-put-bytes
-    part-put-bytes-start
+    (λ c. search needs) (λ c. search needs) (λ c. search needs) (λ c. search needs) (λ c. search needs)
     part-put-bytes-end
-    put-bytes-requires
-    same-length
+    (λ c κs. search needs) (λ c. search needs)
     returns)

@@ -13,11 +13,8 @@ mul-at c = let h = row STATES STATES (c .before .pre .0) (le-refl STATES) (c .be
 add-at : tie.Need-add-at
 add-at c = let h = row STATES STATES (c .before .pre .0) (le-refl STATES) (c .before .pre .1) in omega arith
 
-at-requires : tie.Need-at-requires
-at-requires c κs = search needs
-
-returns : tie.Need-returns
-returns c = search needs
-
 pub entry-spec : {M : Type 1} → statement M
-entry-spec = tie.close (tie.spec mul-at add-at at-requires returns)
+entry-spec = tie.close (tie.spec
+    mul-at
+    add-at
+    (λ c κs. search needs) (λ c. search needs))

@@ -11,15 +11,6 @@ use borrow.Author.Needs.{needs}
 use Rattle.views.proofs.first_broken.Statement.{statement}
 use Rattle.views.proofs.first_broken.Tie as tie
 
-lows-requires : tie.Need-lows-requires
-lows-requires c κs = search needs
-
-first-output-requires : tie.Need-first-output-requires
-first-output-requires c κs = search needs
-
-enum-told : tie.Need-enum-told
-enum-told c = search needs
-
 returns : tie.Need-returns
 unfolding firstBroken judged
 returns c =
@@ -39,9 +30,6 @@ first-respect-requires c κs =
     let c8 = c2 .before .before .before .before .before .before in
     let c13 = c8 .before .before .before .before .before in
     (c13 .pre .0 .0, (c13 .pre .1, (c8 .lows .ensures, c2 .idles .ensures)))
-
-enum-told-2 : tie.Need-enum-told-2
-enum-told-2 c = search needs
 
 returns-2 : tie.Need-returns-2
 unfolding firstBroken judged
@@ -85,13 +73,11 @@ pub first-broken-spec : {M : Type 1} → statement M
 first-broken-spec =
     tie.close
     (tie.spec
-    lows-requires
-    first-output-requires
-    enum-told
+    (λ c κs. search needs) (λ c κs. search needs) (λ c. search needs)
     returns
     idles-requires
     first-respect-requires
-    enum-told-2
+    (λ c. search needs)
     returns-2
     alones-requires
     first-step-requires

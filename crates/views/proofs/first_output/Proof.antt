@@ -34,15 +34,6 @@ Inv-actions outputs views low states actions owners found₀ a₀ found a = (a �
 abbrev μ-actions : tie.MeasureT-actions
 μ-actions outputs views low states actions owners found₀ a₀ found a = actions - a
 
-actions-holds : tie.Need-actions-holds Inv-seconds μ-seconds Inv-firsts μ-firsts Inv-actions μ-actions
-actions-holds c = search sweep
-
-slice-aggregate-owner : tie.Need-slice-aggregate-owner Inv-seconds μ-seconds Inv-firsts μ-firsts Inv-actions μ-actions
-slice-aggregate-owner c = search needs
-
-owner-requires : tie.Need-owner-requires Inv-seconds μ-seconds Inv-firsts μ-firsts Inv-actions μ-actions
-owner-requires c κs = search needs
-
 quiet-requires : tie.Need-quiet-requires Inv-seconds μ-seconds Inv-firsts μ-firsts Inv-actions μ-actions
 quiet-requires c κs =
     let c2 = c .before .before in
@@ -69,14 +60,8 @@ actions-again c =
           (c2 .owner .ensures) (told _ _ (c .before .quiet .ensures) (c .if1 .taken))),
     )
 
-firsts-holds : tie.Need-firsts-holds Inv-seconds μ-seconds Inv-firsts μ-firsts Inv-actions μ-actions
-firsts-holds c = search sweep
-
 add-t : tie.Need-add-t Inv-seconds μ-seconds Inv-firsts μ-firsts Inv-actions μ-actions
 add-t c = omega arith
-
-seconds-holds : tie.Need-seconds-holds Inv-seconds μ-seconds Inv-firsts μ-firsts Inv-actions μ-actions
-seconds-holds c = search (sweep, pairs-passed)
 
 leaks-requires : tie.Need-leaks-requires Inv-seconds μ-seconds Inv-firsts μ-firsts Inv-actions μ-actions
 leaks-requires c κs =
@@ -117,17 +102,11 @@ add-s c = omega arith
 firsts-less : tie.Need-firsts-less Inv-seconds μ-seconds Inv-firsts μ-firsts Inv-actions μ-actions
 firsts-less c = omega arith
 
-firsts-again : tie.Need-firsts-again Inv-seconds μ-seconds Inv-firsts μ-firsts Inv-actions μ-actions
-firsts-again c = search (sweep, when-rest)
-
 add-a-2 : tie.Need-add-a-2 Inv-seconds μ-seconds Inv-firsts μ-firsts Inv-actions μ-actions
 add-a-2 c = omega arith
 
 actions-less-2 : tie.Need-actions-less-2 Inv-seconds μ-seconds Inv-firsts μ-firsts Inv-actions μ-actions
 actions-less-2 c = omega arith
-
-actions-again-2 : tie.Need-actions-again-2 Inv-seconds μ-seconds Inv-firsts μ-firsts Inv-actions μ-actions
-actions-again-2 c = search sweep
 
 returns : tie.Need-returns Inv-seconds μ-seconds Inv-firsts μ-firsts Inv-actions μ-actions
 returns c =
@@ -162,25 +141,23 @@ first-output-spec =
     μ-firsts
     Inv-actions
     μ-actions
-    actions-holds
-    slice-aggregate-owner
-    owner-requires
+    (λ c. search sweep) (λ c. search needs) (λ c κs. search needs)
     quiet-requires
     add-a
     actions-less
     actions-again
-    firsts-holds
+    (λ c. search sweep)
     add-t
-    seconds-holds
+    (λ c. search (sweep, pairs-passed))
     leaks-requires
     add-t-2
     seconds-less
     seconds-again
     add-s
     firsts-less
-    firsts-again
+    (λ c. search (sweep, when-rest))
     add-a-2
     actions-less-2
-    actions-again-2
+    (λ c. search sweep)
     returns
     returns-2)

@@ -45,15 +45,6 @@ actions-holds : tie.Need-actions-holds Inv-states μ-states Inv-actions μ-actio
 actions-holds c =
     (omega arith, c .before .boxes .inv .1, passed-none _, c .before .boxes .inv .3)
 
-slice-aggregate-owner : tie.Need-slice-aggregate-owner Inv-states μ-states Inv-actions μ-actions Inv-boxes μ-boxes
-slice-aggregate-owner c = search needs
-
-owner-requires : tie.Need-owner-requires Inv-states μ-states Inv-actions μ-actions Inv-boxes μ-boxes
-owner-requires c κs = search needs
-
-slice-aggregate-arrow : tie.Need-slice-aggregate-arrow Inv-states μ-states Inv-actions μ-actions Inv-boxes μ-boxes
-slice-aggregate-arrow c = search needs
-
 mul-arrow : tie.Need-mul-arrow Inv-states μ-states Inv-actions μ-actions Inv-boxes μ-boxes
 mul-arrow c =
     let c3 = c .before .before .before in
@@ -71,9 +62,6 @@ add-arrow c =
     let h = owner-small g (c3 .actions-test .taken) (c .before .owner .ensures) in
     let l = g .boxes-most in
     omega arith
-
-arrow-requires : tie.Need-arrow-requires Inv-states μ-states Inv-actions μ-actions Inv-boxes μ-boxes
-arrow-requires c κs = search needs
 
 add-a : tie.Need-add-a Inv-states μ-states Inv-actions μ-actions Inv-boxes μ-boxes
 add-a c = omega arith
@@ -235,12 +223,10 @@ first-respect-spec =
     μ-boxes
     boxes-holds
     actions-holds
-    slice-aggregate-owner
-    owner-requires
-    slice-aggregate-arrow
+    (λ c. search needs) (λ c κs. search needs) (λ c. search needs)
     mul-arrow
     add-arrow
-    arrow-requires
+    (λ c κs. search needs)
     add-a
     actions-less
     actions-again

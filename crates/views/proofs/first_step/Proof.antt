@@ -72,12 +72,6 @@ boxes-again c =
 actions-holds : tie.Need-actions-holds Inv-seconds μ-seconds Inv-firsts μ-firsts Inv-actions μ-actions Inv-boxes μ-boxes
 actions-holds c = (omega arith, c .before .before .before .boxes .inv .1, passed-none _, c .before .before .before .boxes .inv .3)
 
-slice-aggregate-owner : tie.Need-slice-aggregate-owner Inv-seconds μ-seconds Inv-firsts μ-firsts Inv-actions μ-actions Inv-boxes μ-boxes
-slice-aggregate-owner c = search needs
-
-owner-requires : tie.Need-owner-requires Inv-seconds μ-seconds Inv-firsts μ-firsts Inv-actions μ-actions Inv-boxes μ-boxes
-owner-requires c κs = search needs
-
 settled-requires : tie.Need-settled-requires Inv-seconds μ-seconds Inv-firsts μ-firsts Inv-actions μ-actions Inv-boxes μ-boxes
 settled-requires c κs =
     let c3 = c .before .before .before in
@@ -131,14 +125,8 @@ actions-again c =
       c .before .settled .ensures .0,
     )
 
-firsts-holds : tie.Need-firsts-holds Inv-seconds μ-seconds Inv-firsts μ-firsts Inv-actions μ-actions Inv-boxes μ-boxes
-firsts-holds c = search sweep
-
 add-t : tie.Need-add-t Inv-seconds μ-seconds Inv-firsts μ-firsts Inv-actions μ-actions Inv-boxes μ-boxes
 add-t c = omega arith
-
-seconds-holds : tie.Need-seconds-holds Inv-seconds μ-seconds Inv-firsts μ-firsts Inv-actions μ-actions Inv-boxes μ-boxes
-seconds-holds c = search (sweep, pairs-passed)
 
 tears-requires : tie.Need-tears-requires Inv-seconds μ-seconds Inv-firsts μ-firsts Inv-actions μ-actions Inv-boxes μ-boxes
 tears-requires c κs =
@@ -189,9 +177,6 @@ add-s c = omega arith
 
 firsts-less : tie.Need-firsts-less Inv-seconds μ-seconds Inv-firsts μ-firsts Inv-actions μ-actions Inv-boxes μ-boxes
 firsts-less c = omega arith
-
-firsts-again : tie.Need-firsts-again Inv-seconds μ-seconds Inv-firsts μ-firsts Inv-actions μ-actions Inv-boxes μ-boxes
-firsts-again c = search (sweep, when-rest)
 
 add-a-2 : tie.Need-add-a-2 Inv-seconds μ-seconds Inv-firsts μ-firsts Inv-actions μ-actions Inv-boxes μ-boxes
 add-a-2 c = omega arith
@@ -269,22 +254,21 @@ first-step-spec =
     boxes-less
     boxes-again
     actions-holds
-    slice-aggregate-owner
-    owner-requires
+    (λ c. search needs) (λ c κs. search needs)
     settled-requires
     add-a
     actions-less
     actions-again
-    firsts-holds
+    (λ c. search sweep)
     add-t
-    seconds-holds
+    (λ c. search (sweep, pairs-passed))
     tears-requires
     add-t-2
     seconds-less
     seconds-again
     add-s
     firsts-less
-    firsts-again
+    (λ c. search (sweep, when-rest))
     add-a-2
     actions-less-2
     actions-again-2

@@ -9,29 +9,17 @@ use borrow.Author.Needs.{needs}
 use Rattle.views.proofs.judge.Statement.{statement}
 use Rattle.views.proofs.judge.Tie as tie
 
-refused-requires : tie.Need-refused-requires
-refused-requires c κs = search needs
-
 returns : tie.Need-returns
 unfolding judgementOf lengthsFit
 returns c = choose-no _ (both-not _ (ne-eqb _ _ (c .before .if1 .taken))) (c .refused .ensures)
-
-refused-requires-2 : tie.Need-refused-requires-2
-refused-requires-2 c κs = search needs
 
 returns-2 : tie.Need-returns-2
 unfolding judgementOf lengthsFit
 returns-2 c = choose-no _ (both-no _ (both-not _ (ne-eqb _ _ (c .before .if2 .taken)))) (c .refused2 .ensures)
 
-refused-requires-3 : tie.Need-refused-requires-3
-refused-requires-3 c κs = search needs
-
 returns-3 : tie.Need-returns-3
 unfolding judgementOf lengthsFit
 returns-3 c = choose-no _ (both-no _ (both-no _ (ne-eqb _ _ (c .before .if3 .taken)))) (c .refused3 .ensures)
-
-model-table-fits-requires : tie.Need-model-table-fits-requires
-model-table-fits-requires c κs = search needs
 
 first-broken-requires : tie.Need-first-broken-requires
 first-broken-requires c κs =
@@ -49,9 +37,6 @@ returns-4 c =
     choose-yes _ (both-of (eq-eqb _ _ (c5 .if1 .left)) (both-of (eq-eqb _ _ (c4 .if2 .left)) (eq-eqb _ _ (c3 .if3 .left)))) (choose-yes _ (told _ _
     (c2 .model-table-fits .ensures) (c .before .if4 .taken)) (c .first-broken .ensures))
 
-refused-requires-4 : tie.Need-refused-requires-4
-refused-requires-4 c κs = search needs
-
 returns-5 : tie.Need-returns-5
 unfolding judgementOf lengthsFit
 returns-5 c =
@@ -66,14 +51,14 @@ pub judge-spec : {M : Type 1} → statement M
 judge-spec =
     tie.close
     (tie.spec
-    refused-requires
+    (λ c κs. search needs)
     returns
-    refused-requires-2
+    (λ c κs. search needs)
     returns-2
-    refused-requires-3
+    (λ c κs. search needs)
     returns-3
-    model-table-fits-requires
+    (λ c κs. search needs)
     first-broken-requires
     returns-4
-    refused-requires-4
+    (λ c κs. search needs)
     returns-5)

@@ -6,15 +6,6 @@ use borrow.Author.Needs.{needs}
 use Rattle.views.proofs.leaks.Statement.{statement}
 use Rattle.views.proofs.leaks.Tie as tie
 
-alike-requires : tie.Need-alike-requires
-alike-requires c κs = search needs
-
-entry-requires : tie.Need-entry-requires
-entry-requires c κs = search needs
-
-entry-requires-2 : tie.Need-entry-requires-2
-entry-requires-2 c κs = search needs
-
 returns : tie.Need-returns
 unfolding leaksIn
 returns c = (cc) ∙ without-on _ (told _ _ (c .before .before .before .alike .ensures) (c .before .before .if1 .taken))
@@ -24,4 +15,7 @@ unfolding leaksIn
 returns-2 c = without-not _ (told _ _ (c .before .alike .ensures) (c .if1 .left))
 
 pub leaks-spec : {M : Type 1} → statement M
-leaks-spec = tie.close (tie.spec alike-requires entry-requires entry-requires-2 returns returns-2)
+leaks-spec = tie.close (tie.spec
+    (λ c κs. search needs) (λ c κs. search needs) (λ c κs. search needs)
+    returns
+    returns-2)

@@ -5,12 +5,6 @@ use borrow.Author.Needs.{needs}
 use Rattle.views.proofs.moves.Statement.{statement}
 use Rattle.views.proofs.moves.Tie as tie
 
-entry-requires : tie.Need-entry-requires
-entry-requires c κs = search needs
-
-alike-requires : tie.Need-alike-requires
-alike-requires c κs = search needs
-
 returns : tie.Need-returns
 unfolding movesIn
 returns c = not-yes (told _ _ (rw (c .before .before .entry .ensures) at (c .before .alike .ensures)) (c .if1 .taken))
@@ -20,4 +14,7 @@ unfolding movesIn
 returns-2 c = not-no (told _ _ (rw (c .before .before .entry .ensures) at (c .before .alike .ensures)) (c .if1 .left))
 
 pub moves-spec : {M : Type 1} → statement M
-moves-spec = tie.close (tie.spec entry-requires alike-requires returns returns-2)
+moves-spec = tie.close (tie.spec
+    (λ c κs. search needs) (λ c κs. search needs)
+    returns
+    returns-2)

@@ -8,21 +8,6 @@ use borrow.Author.Needs.{needs}
 use Rattle.views.proofs.tears.Statement.{statement}
 use Rattle.views.proofs.tears.Tie as tie
 
-alike-requires : tie.Need-alike-requires
-alike-requires c κs = search needs
-
-alike-requires-2 : tie.Need-alike-requires-2
-alike-requires-2 c κs = search needs
-
-entry-requires : tie.Need-entry-requires
-entry-requires c κs = search needs
-
-entry-requires-2 : tie.Need-entry-requires-2
-entry-requires-2 c κs = search needs
-
-alike-requires-3 : tie.Need-alike-requires-3
-alike-requires-3 c κs = search needs
-
 returns : tie.Need-returns
 unfolding tearsIn
 returns c =
@@ -54,11 +39,7 @@ pub tears-spec : {M : Type 1} → statement M
 tears-spec =
     tie.close
     (tie.spec
-    alike-requires
-    alike-requires-2
-    entry-requires
-    entry-requires-2
-    alike-requires-3
+    (λ c κs. search needs) (λ c κs. search needs) (λ c κs. search needs) (λ c κs. search needs) (λ c κs. search needs)
     returns
     returns-2
     returns-3

@@ -9,15 +9,6 @@ use Rattle.zarpalume.proofs.Joined.{verdict-is}
 use Rattle.zarpalume.proofs.put_verdict.Statement.{statement}
 use Rattle.zarpalume.proofs.put_verdict.Tie as tie
 
-judge-requires : tie.Need-judge-requires
-judge-requires c κs = search needs
-
-slice-aggregate-needed : tie.Need-slice-aggregate-needed
-slice-aggregate-needed c = search needs
-
-needed-requires : tie.Need-needed-requires
-needed-requires c κs = search needs
-
 put-lines-requires : tie.Need-put-lines-requires
 put-lines-requires c κs =
     let p = c .before .before .before .before .before .before .before .before .before .before .before .pre in
@@ -27,9 +18,6 @@ put-lines-requires c κs =
       subst Small (sym (c .before .before .before .before .before .before .judge .ensures)) (small (a .model) (a .next .now) (a .outputs .now) (a .views .now)),
       subst Few (sym (c .before .before .before .needed .ensures .0)) (few (a .model .machine) (a .next .now) (a .outputs .now) blank),
     )
-
-same-length : tie.Need-same-length
-same-length c = search needs
 
 returns : tie.Need-returns
 returns c =
@@ -41,9 +29,7 @@ pub put-verdict-spec : {M : Type 1} → statement M
 put-verdict-spec =
     tie.close
     (tie.spec
-    judge-requires
-    slice-aggregate-needed
-    needed-requires
+    (λ c κs. search needs) (λ c. search needs) (λ c κs. search needs)
     put-lines-requires
-    same-length
+    (λ c. search needs)
     returns)

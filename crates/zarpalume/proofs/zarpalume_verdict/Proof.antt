@@ -9,50 +9,11 @@ use Rattle.zarpalume.proofs.zarpalume_verdict.Tie as tie
 returns : tie.Need-returns
 returns c = call-bad _ (c .before .before .before .args .verdict .now) (ne-eqb _ _ (c .if1 .taken))
 
-zero-requires : tie.Need-zero-requires
-zero-requires c κs = search needs
-
-slice-aggregate-read : tie.Need-slice-aggregate-read
-slice-aggregate-read c = search needs
-
-slice-aggregate-read-2 : tie.Need-slice-aggregate-read-2
-slice-aggregate-read-2 c = search needs
-
-slice-aggregate-read-3 : tie.Need-slice-aggregate-read-3
-slice-aggregate-read-3 c = search needs
-
-read-requires : tie.Need-read-requires
-read-requires c κs = search needs
-
-enum-known-answer : tie.Need-enum-known-answer
-enum-known-answer c = search needs
-
-enum-told : tie.Need-enum-told
-enum-told c = search needs
-
 put-refusal-requires : tie.Need-put-refusal-requires
 put-refusal-requires c κs = (search needs, line-fits _ _ _ _ _ _ _ _ (c .before .before .before .before .before .before .before .before .before .read .ensures) (search needs) (search needs) (search needs))
 
-same-length : tie.Need-same-length
-same-length c = search needs
-
 returns-2 : tie.Need-returns-2
 returns-2 c = call-good _ _ _ _ (c .before .before .before .before .before .before .before .before .before .before .before .before .before .before .before .before .before .before .before .before .if1 .left) (c .before .before .before .before .before .before .before .before .before .before .before .before .before .before .before .before .before .before .zero .ensures) (c .before .before .put-refusal .ensures .0) (refused-said _ _ _ _ _ _ _ _ (c .before .before .before .before .before .before .before .before .before .before .before .before .read .ensures) (search needs) (search needs) (search needs) (c .before .before .before .before .before .match .keys2))
-
-new-requires : tie.Need-new-requires
-new-requires c κs = search needs
-
-new-requires-2 : tie.Need-new-requires-2
-new-requires-2 c κs = search needs
-
-slice-aggregate-put-verdict : tie.Need-slice-aggregate-put-verdict
-slice-aggregate-put-verdict c = search needs
-
-slice-aggregate-put-verdict-2 : tie.Need-slice-aggregate-put-verdict-2
-slice-aggregate-put-verdict-2 c = search needs
-
-slice-aggregate-put-verdict-3 : tie.Need-slice-aggregate-put-verdict-3
-slice-aggregate-put-verdict-3 c = search needs
 
 put-verdict-requires : tie.Need-put-verdict-requires
 put-verdict-requires c κs = (omega (arith, c .before .before .before .before .before .before .before .before .before .before .before .before .before .before .before .before .before .before .before .before .before .zero .kept .0, c .before .before .before .before .before .before .before .before .before .before .before .before .before .before .before .before .before .before .before .before .before .before .before .if1 .left), few-boxes (c .before .before .before .before .new2 .ensures) (c .before .before .before .before .before .new .ensures) (boxes-most _ _ _ _ _ _ _ _ (c .before .before .before .before .before .before .before .before .before .before .before .before .before .before .before .read .ensures) (search needs) (search needs) (search needs) (c .before .before .before .before .before .before .before .answer .given .1)))
@@ -68,21 +29,12 @@ zarpalume-verdict-spec =
     tie.close
     (tie.spec
     returns
-    zero-requires
-    slice-aggregate-read
-    slice-aggregate-read-2
-    slice-aggregate-read-3
-    read-requires
-    enum-known-answer
-    enum-told
+    (λ c κs. search needs) (λ c. search needs) (λ c. search needs) (λ c. search needs) (λ c κs. search needs) (λ c. search needs)
+    (λ c. search needs)
     put-refusal-requires
-    same-length
+    (λ c. search needs)
     returns-2
-    new-requires
-    new-requires-2
-    slice-aggregate-put-verdict
-    slice-aggregate-put-verdict-2
-    slice-aggregate-put-verdict-3
+    (λ c κs. search needs) (λ c κs. search needs) (λ c. search needs) (λ c. search needs) (λ c. search needs)
     put-verdict-requires
     same-length-2
     returns-3)

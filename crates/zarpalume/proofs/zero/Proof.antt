@@ -18,12 +18,6 @@ bytes-holds c = zeroing-none _
 slice-write-bytes : tie.Need-slice-write-bytes Inv-bytes μ-bytes
 slice-write-bytes c = let h = zeroing-length _ _ _ (c .before .bytes .inv) in omega arith
 
-add-i : tie.Need-add-i Inv-bytes μ-bytes
-add-i c = search needs
-
-bytes-less : tie.Need-bytes-less Inv-bytes μ-bytes
-bytes-less c = search needs
-
 bytes-again : tie.Need-bytes-again Inv-bytes μ-bytes
 bytes-again c = zeroing-more _ _ _ (c .before .bytes .inv) (c .bytes-test .taken)
 
@@ -41,8 +35,7 @@ zero-spec =
     μ-bytes
     bytes-holds
     slice-write-bytes
-    add-i
-    bytes-less
+    (λ c. search needs) (λ c. search needs)
     bytes-again
     same-length
     returns)

@@ -18,9 +18,6 @@ abbrev μ-actions : tie.MeasureT-actions
 actions-holds : tie.Need-actions-holds Inv-actions μ-actions
 actions-holds c = (omega arith, moved-none _ _ _ _ (c .before .pre .1 .1 .1))
 
-step-requires : tie.Need-step-requires Inv-actions μ-actions
-step-requires c κs = search needs
-
 element-copy-out-if1 : tie.Need-element-copy-out-if1 Inv-actions μ-actions
 element-copy-out-if1 c = omega (arith, c .step .ensures .1, c .before .before .before .before .pre .0 .states-most)
 
@@ -77,7 +74,7 @@ mark-state-spec =
     Inv-actions
     μ-actions
     actions-holds
-    step-requires
+    (λ c κs. search needs)
     element-copy-out-if1
     element-copy-out-if1-2
     add-a

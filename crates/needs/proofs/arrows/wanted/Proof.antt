@@ -12,18 +12,17 @@ returns : tie.Need-returns
 unfolding wantedIn both
 returns c = rw (eq-eqb _ _ (c .if1 .taken))
 
-mul-result : tie.Need-mul-result
-mul-result c = search needs
-
 add-result : tie.Need-add-result
 add-result c = omega arith
-
-element-copy-out-result : tie.Need-element-copy-out-result
-element-copy-out-result c = search needs
 
 returns-2 : tie.Need-returns-2
 unfolding wantedIn both
 returns-2 c = rw (ne-eqb _ _ (c .before .if1 .left))
 
 pub wanted-spec : {M : Type 1} → statement M
-wanted-spec = tie.close (tie.spec returns mul-result add-result element-copy-out-result returns-2)
+wanted-spec = tie.close (tie.spec
+    returns
+    (λ c. search needs)
+    add-result
+    (λ c. search needs)
+    returns-2)

@@ -22,9 +22,6 @@ abbrev μ-targets : tie.MeasureT-targets
 targets-holds : tie.Need-targets-holds Inv-targets μ-targets
 targets-holds c = (omega arith, row-none _ _ _ (c .before .pre .1))
 
-wanted-requires : tie.Need-wanted-requires Inv-targets μ-targets
-wanted-requires c κs = search needs
-
 put-requires : tie.Need-put-requires Inv-targets μ-targets
 put-requires c κs =
     let q = c .before .before .before .before .before .before .pre in
@@ -72,7 +69,7 @@ write-row-spec =
     Inv-targets
     μ-targets
     targets-holds
-    wanted-requires
+    (λ c κs. search needs)
     put-requires
     add-n
     add-u

@@ -5,12 +5,6 @@ use Rattle.needs.proofs.Moving.{places-of, covered-touched}
 use Rattle.needs.proofs.changes.again.Statement.{statement}
 use Rattle.needs.proofs.changes.again.Tie as tie
 
-largest-requires : tie.Need-largest-requires
-largest-requires c κs = search needs
-
-touched-requires : tie.Need-touched-requires
-touched-requires c κs = search needs
-
 returns : tie.Need-returns
 returns c = c .touched .ensures
 
@@ -22,4 +16,8 @@ returns-2 c = let q = c .before .before .before .pre in covered-touched (q .1 .1
 
 pub again-spec : {M : Type 1} → statement M
 again-spec =
-    tie.close (tie.spec largest-requires touched-requires returns leading-requires returns-2)
+    tie.close (tie.spec
+    (λ c κs. search needs) (λ c κs. search needs)
+    returns
+    leading-requires
+    returns-2)

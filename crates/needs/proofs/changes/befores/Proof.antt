@@ -27,9 +27,6 @@ states-holds c = (omega arith, befores-none (length-replicate {A = Bool} 16384 f
 actions-holds : tie.Need-actions-holds Inv-actions μ-actions Inv-states μ-states
 actions-holds c = (omega arith, c .before .states .inv .1)
 
-step-requires : tie.Need-step-requires Inv-actions μ-actions Inv-states μ-states
-step-requires c κs = search needs
-
 mul-before : tie.Need-mul-before Inv-actions μ-actions Inv-states μ-states
 mul-before c = omega (arith, c .step .ensures .1, c .before .before .before .before .before .before .pre .states-most)
 
@@ -72,7 +69,7 @@ befores-spec =
     μ-states
     states-holds
     actions-holds
-    step-requires
+    (λ c κs. search needs)
     mul-before
     add-before
     array-write-before

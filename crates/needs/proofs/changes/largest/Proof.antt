@@ -66,9 +66,6 @@ states-less-2 c = omega arith
 states-again-2 : tie.Need-states-again-2 Inv-states μ-states
 states-again-2 c = omega arith
 
-returns : tie.Need-returns Inv-states μ-states
-returns c = search needs
-
 pub largest-spec : {M : Type 1} → statement M
 largest-spec =
     tie.close
@@ -93,4 +90,4 @@ largest-spec =
     add-s-2
     states-less-2
     states-again-2
-    returns)
+    (λ c. search needs))

@@ -17,12 +17,6 @@ abbrev μ-states : tie.MeasureT-states
 states-holds : tie.Need-states-holds Inv-states μ-states
 states-holds c = (omega arith, merged-none (c .pre .1))
 
-element-copy-out-or : tie.Need-element-copy-out-or Inv-states μ-states
-element-copy-out-or c = search needs
-
-mul-or : tie.Need-mul-or Inv-states μ-states
-mul-or c = search needs
-
 add-or : tie.Need-add-or Inv-states μ-states
 add-or c = omega arith
 
@@ -31,9 +25,6 @@ element-copy-out-or-2 c = omega (arith, c .before .before .before .pre .0)
 
 or-requires : tie.Need-or-requires Inv-states μ-states
 or-requires c κs = tt
-
-element-write-marks : tie.Need-element-write-marks Inv-states μ-states
-element-write-marks c = search needs
 
 add-s : tie.Need-add-s Inv-states μ-states
 add-s c = omega arith
@@ -54,12 +45,11 @@ merge-spec =
     Inv-states
     μ-states
     states-holds
-    element-copy-out-or
-    mul-or
+    (λ c. search needs) (λ c. search needs)
     add-or
     element-copy-out-or-2
     or-requires
-    element-write-marks
+    (λ c. search needs)
     add-s
     states-less
     states-again

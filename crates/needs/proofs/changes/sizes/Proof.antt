@@ -15,9 +15,6 @@ abbrev μ-states : tie.MeasureT-states
 states-holds : tie.Need-states-holds Inv-states μ-states
 states-holds c = omega arith
 
-element-copy-out-wide : tie.Need-element-copy-out-wide Inv-states μ-states
-element-copy-out-wide c = search needs
-
 wide-requires : tie.Need-wide-requires Inv-states μ-states
 wide-requires c κs = tt
 
@@ -51,9 +48,6 @@ states-less-2 c = omega arith
 states-again-2 : tie.Need-states-again-2 Inv-states μ-states
 states-again-2 c = omega arith
 
-returns : tie.Need-returns Inv-states μ-states
-returns c = search needs
-
 pub sizes-spec : {M : Type 1} → statement M
 sizes-spec =
     tie.close
@@ -61,7 +55,7 @@ sizes-spec =
     Inv-states
     μ-states
     states-holds
-    element-copy-out-wide
+    (λ c. search needs)
     wide-requires
     array-read-if1
     add-s
@@ -73,4 +67,4 @@ sizes-spec =
     add-s-2
     states-less-2
     states-again-2
-    returns)
+    (λ c. search needs))

@@ -5,12 +5,6 @@ use Rattle.laws.specs.Choice.{both}
 use Rattle.needs.proofs.outputs.joins_first.Statement.{statement}
 use Rattle.needs.proofs.outputs.joins_first.Tie as tie
 
-element-copy-out-if1 : tie.Need-element-copy-out-if1
-element-copy-out-if1 c = search needs
-
-seen-alike-requires : tie.Need-seen-alike-requires
-seen-alike-requires c κs = search needs
-
 returns : tie.Need-returns
 unfolding both
 returns c = rw (c .before .if1 .taken) (c .seen-alike .ensures)
@@ -20,4 +14,7 @@ unfolding both
 returns-2 c = rw (c .if1 .left)
 
 pub joins-first-spec : {M : Type 1} → statement M
-joins-first-spec = tie.close (tie.spec element-copy-out-if1 seen-alike-requires returns returns-2)
+joins-first-spec = tie.close (tie.spec
+    (λ c. search needs) (λ c κs. search needs)
+    returns
+    returns-2)

@@ -16,30 +16,12 @@ Inv-actions next c states actions t s a₀ a = (a ≤ actions) × Held a (SameAf
 abbrev μ-actions : tie.MeasureT-actions
 μ-actions next c states actions t s a₀ a = actions - a
 
-element-copy-out-if1 : tie.Need-element-copy-out-if1 Inv-actions μ-actions
-element-copy-out-if1 c = search needs
-
-element-copy-out-if1-2 : tie.Need-element-copy-out-if1-2 Inv-actions μ-actions
-element-copy-out-if1-2 c = search needs
-
 returns : tie.Need-returns Inv-actions μ-actions
 returns c =
     let g = c .before .before .before .before .args in agrees-apart (stepIn (g .actions) (g .next .now)) _ (entry (g .c .now)) _ _ (c .if1 .taken)
 
 actions-holds : tie.Need-actions-holds Inv-actions μ-actions
 actions-holds c = (search needs, held-none _)
-
-step-requires : tie.Need-step-requires Inv-actions μ-actions
-step-requires c κs = search needs
-
-step-requires-2 : tie.Need-step-requires-2 Inv-actions μ-actions
-step-requires-2 c κs = search needs
-
-element-copy-out-if2 : tie.Need-element-copy-out-if2 Inv-actions μ-actions
-element-copy-out-if2 c = search needs
-
-element-copy-out-if2-2 : tie.Need-element-copy-out-if2-2 Inv-actions μ-actions
-element-copy-out-if2-2 c = search needs
 
 returns-2 : tie.Need-returns-2 Inv-actions μ-actions
 returns-2 c =
@@ -70,14 +52,10 @@ agree-spec =
     (tie.spec
     Inv-actions
     μ-actions
-    element-copy-out-if1
-    element-copy-out-if1-2
+    (λ c. search needs) (λ c. search needs)
     returns
     actions-holds
-    step-requires
-    step-requires-2
-    element-copy-out-if2
-    element-copy-out-if2-2
+    (λ c κs. search needs) (λ c κs. search needs) (λ c. search needs) (λ c. search needs)
     returns-2
     add-a
     actions-less

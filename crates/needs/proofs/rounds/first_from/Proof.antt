@@ -39,9 +39,6 @@ earlier-again c =
     let g = c .before .before .before .before .before .before .args in
     (omega arith, missed-follows _ _ _ (agrees-joined (stepIn (g .actions) (g .next .now)) (g .actions) (entry (g .c .now))) (q .1 .0) (c .before .before .before .earlier-test .taken) (c .before .before .before .before .earlier .inv .1) (c .before .wide .ensures) (c .if1 .taken))
 
-joins-requires : tie.Need-joins-requires Inv-earlier μ-earlier
-joins-requires c κs = search needs
-
 returns : tie.Need-returns Inv-earlier μ-earlier
 returns c =
     (missed-hit _ _ _ (c .before .before .before .before .before .before .earlier .inv .1) (c .before .before .before .before .before .earlier-test .taken) (sym (c .before .joins .ensures) ∙ c .if2 .taken), omega arith)
@@ -71,7 +68,7 @@ first-from-spec =
     add-t
     earlier-less
     earlier-again
-    joins-requires
+    (λ c κs. search needs)
     returns
     add-t-2
     earlier-less-2

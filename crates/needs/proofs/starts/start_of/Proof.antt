@@ -6,9 +6,6 @@ use Rattle.needs.proofs.Starting.{began-there, began-here}
 use Rattle.needs.proofs.starts.start_of.Statement.{statement}
 use Rattle.needs.proofs.starts.start_of.Tie as tie
 
-element-copy-out-wide : tie.Need-element-copy-out-wide
-element-copy-out-wide c = search needs
-
 wide-requires : tie.Need-wide-requires
 wide-requires c κs = tt
 
@@ -18,9 +15,6 @@ returns c = began-there (c .before .before .before .pre .2) (c .before .wide .en
 narrow-requires : tie.Need-narrow-requires
 narrow-requires c κs = omega (arith, c .before .before .before .pre .1)
 
-element-write-starts : tie.Need-element-write-starts
-element-write-starts c = search needs
-
 returns-2 : tie.Need-returns-2
 returns-2 c = let q = c .before .before .before .before .pre in began-here (q .2) (q .0) (c .before .before .wide .ensures) (c .before .if1 .left) (c .narrow .ensures)
 
@@ -28,9 +22,9 @@ pub start-of-spec : {M : Type 1} → statement M
 start-of-spec =
     tie.close
     (tie.spec
-    element-copy-out-wide
+    (λ c. search needs)
     wide-requires
     returns
     narrow-requires
-    element-write-starts
+    (λ c. search needs)
     returns-2)

@@ -6,24 +6,9 @@ use borrow.Author.Needs.{needs}
 use Rattle.sheet.proofs.labels.label_found.Statement.{statement}
 use Rattle.sheet.proofs.labels.label_found.Tie as tie
 
-slice-aggregate-read-text : tie.Need-slice-aggregate-read-text
-slice-aggregate-read-text c = search needs
-
-slice-aggregate-read-text-2 : tie.Need-slice-aggregate-read-text-2
-slice-aggregate-read-text-2 c = search needs
-
-slice-aggregate-read-text-3 : tie.Need-slice-aggregate-read-text-3
-slice-aggregate-read-text-3 c = search needs
-
 read-text-requires : tie.Need-read-text-requires
 unfolding zeros
 read-text-requires c κs = (refl, refl, refl)
-
-enum-known-answer : tie.Need-enum-known-answer
-enum-known-answer c = search needs
-
-enum-known-answer-2 : tie.Need-enum-known-answer-2
-enum-known-answer-2 c = search needs
 
 label-place-requires : tie.Need-label-place-requires
 label-place-requires c κs = let b = found-box (c .before .before .before .before .before .before .before .before .before .before .before .before .args .text .now) (c .before .before .before .before .before .before .before .read-text .result .answer) _ (c .before .before .before .before .before .before .before .read-text .ensures) (c .before .before .before .before .before .before .before .before .before .before .before .before .args .position) (c .before .before .answer2 .given .1) (c .if1 .taken) in
@@ -42,12 +27,9 @@ pub label-found-spec : {M : Type 1} → statement M
 label-found-spec =
     tie.close
     (tie.spec
-    slice-aggregate-read-text
-    slice-aggregate-read-text-2
-    slice-aggregate-read-text-3
+    (λ c. search needs) (λ c. search needs) (λ c. search needs)
     read-text-requires
-    enum-known-answer
-    enum-known-answer-2
+    (λ c. search needs) (λ c. search needs)
     label-place-requires
     returns
     returns-2

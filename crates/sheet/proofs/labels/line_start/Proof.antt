@@ -22,17 +22,8 @@ loop-holds : tie.Need-loop-holds Inv-loop μ-loop
 unfolding lineStart
 loop-holds c = (c .before .pre .0, c .before .pre .1, omega arith, refl)
 
-find-requires : tie.Need-find-requires Inv-loop μ-loop
-find-requires c κs = search needs
-
 add-at : tie.Need-add-at Inv-loop μ-loop
 add-at c = omega (arith, c .find .ensures, line-ends (c .before .before .loop .inv .0) (c .before .before .loop .at) (rw (c .before .before .loop .inv .3) (placed (c .before .before .loop .inv .0) (c .before .before .loop .k) (omega arith) .within)))
-
-add-k : tie.Need-add-k Inv-loop μ-loop
-add-k c = search needs
-
-loop-less : tie.Need-loop-less Inv-loop μ-loop
-loop-less c = search needs
 
 loop-again : tie.Need-loop-again Inv-loop μ-loop
 unfolding lineStart
@@ -44,4 +35,12 @@ returns c = let e : c .before .loop .k ≡ c .before .before .before .args .inde
 pub line-start-spec : {M : Type 1} → statement M
 line-start-spec =
     tie.close
-    (tie.spec Inv-loop μ-loop loop-holds find-requires add-at add-k loop-less loop-again returns)
+    (tie.spec
+    Inv-loop
+    μ-loop
+    loop-holds
+    (λ c κs. search needs)
+    add-at
+    (λ c. search needs) (λ c. search needs)
+    loop-again
+    returns)

@@ -6,27 +6,6 @@ use borrow.Author.Needs.{needs}
 use Rattle.sheet.proofs.lines.act_line.Statement.{statement}
 use Rattle.sheet.proofs.lines.act_line.Tie as tie
 
-slice-aggregate-record-of : tie.Need-slice-aggregate-record-of
-slice-aggregate-record-of c = search needs
-
-slice-aggregate-record-of-2 : tie.Need-slice-aggregate-record-of-2
-slice-aggregate-record-of-2 c = search needs
-
-record-of-requires : tie.Need-record-of-requires
-record-of-requires c κs = search needs
-
-enum-known-e : tie.Need-enum-known-e
-enum-known-e c = search needs
-
-enum-known-id : tie.Need-enum-known-id
-enum-known-id c = search needs
-
-position-requires : tie.Need-position-requires
-position-requires c κs = search needs
-
-cast-t16 : tie.Need-cast-t16
-cast-t16 c = search needs
-
 returns : tie.Need-returns
 unfolding actLine
 returns c = rw (sym (c .before .before .before .before .before .record-of .ensures) ∙ c .before .before .before .id .given .1, ← c .before .position .ensures, lt-ltb _ _ (c .if1 .taken))
@@ -43,13 +22,8 @@ pub act-line-spec : {M : Type 1} → statement M
 act-line-spec =
     tie.close
     (tie.spec
-    slice-aggregate-record-of
-    slice-aggregate-record-of-2
-    record-of-requires
-    enum-known-e
-    enum-known-id
-    position-requires
-    cast-t16
+    (λ c. search needs) (λ c. search needs) (λ c κs. search needs) (λ c. search needs) (λ c. search needs) (λ c κs. search needs)
+    (λ c. search needs)
     returns
     returns-2
     returns-3)

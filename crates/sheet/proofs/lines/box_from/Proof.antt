@@ -10,32 +10,11 @@ use Rattle.sheet.proofs.lines.box_from.Tie as tie
 returns : tie.Need-returns
 returns c = none (c .before .before .before .args .ids .now) (c .before .before .before .args .line .now) _ (c .if1 .taken)
 
-number-from-requires : tie.Need-number-from-requires
-number-from-requires c κs = search needs
-
 returns-2 : tie.Need-returns-2
 returns-2 c = one (c .before .before .before .before .before .args .ids .now) (c .before .before .before .before .before .args .line .now) _ (omega arith) _ (ap (λ (f : Field). f .end) (c .before .number-from .ensures)) (c .if2 .taken)
 
-add-start : tie.Need-add-start
-add-start c = search needs
-
-find-requires : tie.Need-find-requires
-find-requires c κs = search needs
-
 returns-3 : tie.Need-returns-3
 returns-3 c = more (c .before .before .before .before .before .before .before .args .ids .now) (c .before .before .before .before .before .before .before .args .line .now) _ (omega arith) _ (ap (λ (f : Field). f .end) (c .before .before .before .number-from .ensures)) (omega arith) _ (c .before .find .ensures) (c .if3 .taken)
-
-sub-box-of : tie.Need-sub-box-of
-sub-box-of c = search needs
-
-part-box-of-start : tie.Need-part-box-of-start
-part-box-of-start c = search needs
-
-part-box-of-end : tie.Need-part-box-of-end
-part-box-of-end c = search needs
-
-box-of-requires : tie.Need-box-of-requires
-box-of-requires c κs = search needs
 
 returns-4 : tie.Need-returns-4
 returns-4 c = c .box-of .ensures ∙ rw (ap (λ (f : Field). f .number) (c .before .before .before .before .before .number-from .ensures)) (two (c .before .before .before .before .before .before .before .before .before .args .ids .now) (c .before .before .before .before .before .before .before .before .before .args .line .now) _ (omega arith) _ (ap (λ (f : Field). f .end) (c .before .before .before .before .before .number-from .ensures)) (omega arith) _ (c .before .before .before .find .ensures) (c .before .before .if3 .left))
@@ -45,13 +24,9 @@ box-from-spec =
     tie.close
     (tie.spec
     returns
-    number-from-requires
+    (λ c κs. search needs)
     returns-2
-    add-start
-    find-requires
+    (λ c. search needs) (λ c κs. search needs)
     returns-3
-    sub-box-of
-    part-box-of-start
-    part-box-of-end
-    box-of-requires
+    (λ c. search needs) (λ c. search needs) (λ c. search needs) (λ c κs. search needs)
     returns-4)

@@ -7,15 +7,6 @@ use borrow.Author.Needs.{needs}
 use Rattle.sheet.proofs.lines.box_line.Statement.{statement}
 use Rattle.sheet.proofs.lines.box_line.Tie as tie
 
-slice-aggregate-starts : tie.Need-slice-aggregate-starts
-slice-aggregate-starts c = search needs
-
-starts-requires : tie.Need-starts-requires
-starts-requires c κs = search needs
-
-box-from-requires : tie.Need-box-from-requires
-box-from-requires c κs = search needs
-
 returns : tie.Need-returns
 unfolding boxLine
 returns c = let s = sym (c .before .before .starts .ensures) ∙ c .before .if1 .taken in rw (← rest-after _ words.box s) (rw s (c .box-from .ensures))
@@ -26,4 +17,7 @@ returns-2 c = rw (sym (c .before .starts .ensures) ∙ c .if1 .left)
 
 pub box-line-spec : {M : Type 1} → statement M
 box-line-spec =
-    tie.close (tie.spec slice-aggregate-starts starts-requires box-from-requires returns returns-2)
+    tie.close (tie.spec
+    (λ c. search needs) (λ c κs. search needs) (λ c κs. search needs)
+    returns
+    returns-2)

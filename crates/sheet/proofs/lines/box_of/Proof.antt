@@ -5,26 +5,11 @@ use borrow.Author.Needs.{needs}
 use Rattle.sheet.proofs.lines.box_of.Statement.{statement}
 use Rattle.sheet.proofs.lines.box_of.Tie as tie
 
-enum-told : tie.Need-enum-told
-enum-told c = search needs
-
-enum-known-number : tie.Need-enum-known-number
-enum-known-number c = search needs
-
-position-requires : tie.Need-position-requires
-position-requires c κs = search needs
-
 returns : tie.Need-returns
 returns c = rw (c .before .before .before .number .given .1, ← c .before .position .ensures, lt-ltb _ _ (c .if1 .taken))
 
-label-good-requires : tie.Need-label-good-requires
-label-good-requires c κs = search needs
-
 returns-2 : tie.Need-returns-2
 returns-2 c = rw (c .before .before .before .before .before .number .given .1, ← c .before .before .before .position .ensures, le-ltb _ _ (c .before .before .if1 .left), sym (c .before .label-good .ensures) ∙ c .if2 .taken)
-
-returns-3 : tie.Need-returns-3
-returns-3 c = search needs
 
 returns-4 : tie.Need-returns-4
 returns-4 c = rw (c .before .before .before .before .before .number .given .1, ← c .before .before .before .position .ensures, le-ltb _ _ (c .before .before .if1 .left), sym (c .before .label-good .ensures) ∙ c .if2 .left)
@@ -33,11 +18,9 @@ pub box-of-spec : {M : Type 1} → statement M
 box-of-spec =
     tie.close
     (tie.spec
-    enum-told
-    enum-known-number
-    position-requires
+    (λ c. search needs) (λ c. search needs) (λ c κs. search needs)
     returns
-    label-good-requires
+    (λ c κs. search needs)
     returns-2
-    returns-3
+    (λ c. search needs)
     returns-4)

@@ -12,11 +12,12 @@ returns c = simp (le-ltb 0 (length (c .before .before .args .label .now)) (omega
 returns-2 : tie.Need-returns-2
 returns-2 c = simp (lt-ltb 0 (length (c .before .before .before .args .label .now)) (omega arith), lt-leb _ _ (c .if2 .taken))
 
-plain-requires : tie.Need-plain-requires
-plain-requires c κs = search needs
-
 returns-3 : tie.Need-returns-3
 returns-3 c = simp (lt-ltb 0 (length (c .before .before .before .before .args .label .now)) (omega arith), le-leb _ _ (c .before .if2 .left)) (c .plain .ensures)
 
 pub label-good-spec : {M : Type 1} → statement M
-label-good-spec = tie.close (tie.spec returns returns-2 plain-requires returns-3)
+label-good-spec = tie.close (tie.spec
+    returns
+    returns-2
+    (λ c κs. search needs)
+    returns-3)

@@ -23,35 +23,8 @@ loop-holds c = start _ _ _ (c .before .before .pre)
 returns : tie.Need-returns Inv-loop μ-loop
 returns c = too-few (c .before .before .loop .inv) (omega arith) (omega arith)
 
-mul-number-from : tie.Need-mul-number-from Inv-loop μ-loop
-mul-number-from c = search needs
-
-shared-slice-read-number-from : tie.Need-shared-slice-read-number-from Inv-loop μ-loop
-shared-slice-read-number-from c = search needs
-
-number-from-requires : tie.Need-number-from-requires Inv-loop μ-loop
-number-from-requires c κs = search needs
-
-enum-known-number : tie.Need-enum-known-number Inv-loop μ-loop
-enum-known-number c = search needs
-
-mul-values : tie.Need-mul-values Inv-loop μ-loop
-mul-values c = search needs
-
-array-write-values : tie.Need-array-write-values Inv-loop μ-loop
-array-write-values c = search needs
-
-enum-told : tie.Need-enum-told Inv-loop μ-loop
-enum-told c = search needs
-
 add-at : tie.Need-add-at Inv-loop μ-loop
 add-at c = omega (arith, ap (λ (f : Field). f .end) (c .before .number-from .ensures), end-within (c .before .before .before .before .before .before .before .before .args .line .now) 9 (c .before .before .before .before .before .loop .at) (omega arith))
-
-add-k : tie.Need-add-k Inv-loop μ-loop
-add-k c = search needs
-
-loop-less : tie.Need-loop-less Inv-loop μ-loop
-loop-less c = search needs
 
 loop-again : tie.Need-loop-again Inv-loop μ-loop
 loop-again c = rw (ap (λ (f : Field). f .end) (c .before .number-from .ensures))
@@ -62,18 +35,6 @@ loop-again c = rw (ap (λ (f : Field). f .end) (c .before .number-from .ensures)
 
 returns-2 : tie.Need-returns-2 Inv-loop μ-loop
 returns-2 c = too-many (c .before .before .loop .inv) (omega arith) (omega arith)
-
-array-read-t23 : tie.Need-array-read-t23 Inv-loop μ-loop
-array-read-t23 c = search needs
-
-array-read-t26 : tie.Need-array-read-t26 Inv-loop μ-loop
-array-read-t26 c = search needs
-
-array-read-t29 : tie.Need-array-read-t29 Inv-loop μ-loop
-array-read-t29 c = search needs
-
-array-read-t32 : tie.Need-array-read-t32 Inv-loop μ-loop
-array-read-t32 c = search needs
 
 returns-3 : tie.Need-returns-3 Inv-loop μ-loop
 returns-3 c = rw (c .if3 .taken) at (all (c .before .before .before .loop .inv) (omega arith) (omega arith))
@@ -89,21 +50,12 @@ numbers-from-spec =
     μ-loop
     loop-holds
     returns
-    mul-number-from
-    shared-slice-read-number-from
-    number-from-requires
-    enum-known-number
-    mul-values
-    array-write-values
-    enum-told
+    (λ c. search needs) (λ c. search needs) (λ c κs. search needs) (λ c. search needs) (λ c. search needs) (λ c. search needs)
+    (λ c. search needs)
     add-at
-    add-k
-    loop-less
+    (λ c. search needs) (λ c. search needs)
     loop-again
     returns-2
-    array-read-t23
-    array-read-t26
-    array-read-t29
-    array-read-t32
+    (λ c. search needs) (λ c. search needs) (λ c. search needs) (λ c. search needs)
     returns-3
     returns-4)

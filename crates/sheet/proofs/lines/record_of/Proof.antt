@@ -6,15 +6,6 @@ use borrow.Author.Needs.{needs}
 use Rattle.sheet.proofs.lines.record_of.Statement.{statement}
 use Rattle.sheet.proofs.lines.record_of.Tie as tie
 
-starts-requires : tie.Need-starts-requires
-starts-requires c κs = search needs
-
-add-numbers-from : tie.Need-add-numbers-from
-add-numbers-from c = search needs
-
-numbers-from-requires : tie.Need-numbers-from-requires
-numbers-from-requires c κs = search needs
-
 returns : tie.Need-returns
 unfolding recordOf
 returns c = let s = sym (c .before .before .starts .ensures) ∙ c .before .if1 .taken in rw (← rest-after _ _ s) (simp s (c .numbers-from .ensures))
@@ -25,4 +16,7 @@ returns-2 c = simp (sym (c .before .starts .ensures) ∙ c .if1 .left)
 
 pub record-of-spec : {M : Type 1} → statement M
 record-of-spec =
-    tie.close (tie.spec starts-requires add-numbers-from numbers-from-requires returns returns-2)
+    tie.close (tie.spec
+    (λ c κs. search needs) (λ c. search needs) (λ c κs. search needs)
+    returns
+    returns-2)

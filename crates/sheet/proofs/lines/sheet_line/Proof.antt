@@ -6,37 +6,13 @@ use borrow.Author.Needs.{needs}
 use Rattle.sheet.proofs.lines.sheet_line.Statement.{statement}
 use Rattle.sheet.proofs.lines.sheet_line.Tie as tie
 
-slice-aggregate-record-of : tie.Need-slice-aggregate-record-of
-slice-aggregate-record-of c = search needs
-
-slice-aggregate-record-of-2 : tie.Need-slice-aggregate-record-of-2
-slice-aggregate-record-of-2 c = search needs
-
-record-of-requires : tie.Need-record-of-requires
-record-of-requires c κs = search needs
-
-enum-known-e : tie.Need-enum-known-e
-enum-known-e c = search needs
-
-enum-known-states : tie.Need-enum-known-states
-enum-known-states c = search needs
-
-sized-requires : tie.Need-sized-requires
-sized-requires c κs = search needs
-
 returns : tie.Need-returns
 unfolding sheetLine
 returns c = rw (sym (c .before .before .before .before .before .record-of .ensures) ∙ c .before .before .before .states .given .1, sym (c .before .sized .ensures) ∙ not-true _ (c .if1 .taken))
 
-sized-requires-2 : tie.Need-sized-requires-2
-sized-requires-2 c κs = search needs
-
 returns-2 : tie.Need-returns-2
 unfolding sheetLine
 returns-2 c = rw (sym (c .before .before .before .before .before .before .before .record-of .ensures) ∙ c .before .before .before .before .before .states .given .1, sym (c .before .before .before .sized .ensures) ∙ not-false _ (c .before .before .if1 .left), sym (c .before .sized2 .ensures) ∙ not-true _ (c .if2 .taken))
-
-sized-requires-3 : tie.Need-sized-requires-3
-sized-requires-3 c κs = search needs
 
 returns-3 : tie.Need-returns-3
 unfolding sheetLine
@@ -58,16 +34,11 @@ pub sheet-line-spec : {M : Type 1} → statement M
 sheet-line-spec =
     tie.close
     (tie.spec
-    slice-aggregate-record-of
-    slice-aggregate-record-of-2
-    record-of-requires
-    enum-known-e
-    enum-known-states
-    sized-requires
+    (λ c. search needs) (λ c. search needs) (λ c κs. search needs) (λ c. search needs) (λ c. search needs) (λ c κs. search needs)
     returns
-    sized-requires-2
+    (λ c κs. search needs)
     returns-2
-    sized-requires-3
+    (λ c κs. search needs)
     returns-3
     returns-4
     returns-5

@@ -6,21 +6,6 @@ use borrow.Author.Needs.{needs}
 use Rattle.sheet.proofs.lines.view_line.Statement.{statement}
 use Rattle.sheet.proofs.lines.view_line.Tie as tie
 
-slice-aggregate-record-of : tie.Need-slice-aggregate-record-of
-slice-aggregate-record-of c = search needs
-
-slice-aggregate-record-of-2 : tie.Need-slice-aggregate-record-of-2
-slice-aggregate-record-of-2 c = search needs
-
-record-of-requires : tie.Need-record-of-requires
-record-of-requires c κs = search needs
-
-enum-known-e : tie.Need-enum-known-e
-enum-known-e c = search needs
-
-enum-known-i : tie.Need-enum-known-i
-enum-known-i c = search needs
-
 returns : tie.Need-returns
 unfolding viewLine
 returns c = simp (sym (c .before .before .before .before .record-of .ensures) ∙ c .before .before .i .given .1, ne-eqb _ _ (c .if1 .taken))
@@ -41,11 +26,7 @@ pub view-line-spec : {M : Type 1} → statement M
 view-line-spec =
     tie.close
     (tie.spec
-    slice-aggregate-record-of
-    slice-aggregate-record-of-2
-    record-of-requires
-    enum-known-e
-    enum-known-i
+    (λ c. search needs) (λ c. search needs) (λ c κs. search needs) (λ c. search needs) (λ c. search needs)
     returns
     returns-2
     returns-3

@@ -36,32 +36,14 @@ abbrev μ-loop : tie.MeasureT-loop
 loop-holds : tie.Need-loop-holds Inv-loop μ-loop
 loop-holds c = record { small = c .before .before .pre .2; few-ids = c .before .before .pre .3; room = refl; going = start (due _) kept _ _ _ _ _ (c .before .before .pre .0) (c .before .before .pre .1) }
 
-take-due-requires : tie.Need-take-due-requires Inv-loop μ-loop
-take-due-requires c κs = search needs
-
-enum-known-number : tie.Need-enum-known-number Inv-loop μ-loop
-enum-known-number c = search needs
-
 returns : tie.Need-returns Inv-loop μ-loop
 returns c = (stopped (c .before .before .before .before .before .loop .inv .going) (omega arith) _ (sym (c .before .before .before .take-due .ensures) ∙ c .before .number .given .1), tt)
-
-enum-known-position : tie.Need-enum-known-position Inv-loop μ-loop
-enum-known-position c = search needs
 
 cast-owners : tie.Need-cast-owners Inv-loop μ-loop
 cast-owners c = omega (arith, act-good (c .before .before .before .before .before .before .before .before .args .ids .now) _ (said (c .before .before .before .before .before .loop .inv .going) (omega arith) (sym (c .before .before .before .take-due .ensures) ∙ c .before .position .given .1)))
 
-array-write-owners : tie.Need-array-write-owners Inv-loop μ-loop
-array-write-owners c = search needs
-
 add-line : tie.Need-add-line Inv-loop μ-loop
 add-line c = omega (arith, line-fits (c .before .before .before .before .before .loop .inv .going) (omega arith) (sym (c .before .before .before .take-due .ensures) ∙ c .before .position .given .1))
-
-add-k : tie.Need-add-k Inv-loop μ-loop
-add-k c = search needs
-
-loop-less : tie.Need-loop-less Inv-loop μ-loop
-loop-less c = search needs
 
 loop-again : tie.Need-loop-again Inv-loop μ-loop
 loop-again c = record { small = c .before .before .before .before .before .loop .inv .small; few-ids = c .before .before .before .before .before .loop .inv .few-ids; room = simp length-set (c .before .before .before .before .before .loop .inv .room); going = took (c .before .before .before .before .before .loop .inv .going) (omega arith) (sym (c .before .before .before .take-due .ensures) ∙ c .before .position .given .1) }
@@ -76,14 +58,12 @@ read-acts-spec =
     Inv-loop
     μ-loop
     loop-holds
-    take-due-requires
-    enum-known-number
+    (λ c κs. search needs) (λ c. search needs)
     returns
-    enum-known-position
+    (λ c. search needs)
     cast-owners
-    array-write-owners
+    (λ c. search needs)
     add-line
-    add-k
-    loop-less
+    (λ c. search needs) (λ c. search needs)
     loop-again
     returns-2)

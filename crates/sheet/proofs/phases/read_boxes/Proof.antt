@@ -36,41 +36,14 @@ abbrev μ-loop : tie.MeasureT-loop
 loop-holds : tie.Need-loop-holds Inv-loop μ-loop
 loop-holds c = record { small = c .before .pre .2; room = refl; going = start due kept _ _ _ _ _ (c .before .pre .0) (c .before .pre .1) }
 
-sub-take-due : tie.Need-sub-take-due Inv-loop μ-loop
-sub-take-due c = search needs
-
-part-take-due-start : tie.Need-part-take-due-start Inv-loop μ-loop
-part-take-due-start c = search needs
-
-part-take-due-end : tie.Need-part-take-due-end Inv-loop μ-loop
-part-take-due-end c = search needs
-
 take-due-requires : tie.Need-take-due-requires Inv-loop μ-loop
 take-due-requires c κs = omega (arith, length-take-le (c .before .before .before .loop .k - 0) (c .before .before .before .loop .ids) (omega arith))
-
-enum-known-number : tie.Need-enum-known-number Inv-loop μ-loop
-enum-known-number c = search needs
 
 returns : tie.Need-returns Inv-loop μ-loop
 returns c = (stopped (c .before .before .before .before .before .before .before .loop .inv .going) (omega arith) _ (rw sub-zero at (sym (c .before .before .before .take-due .ensures) ∙ c .before .number .given .1)), tt, c .before .before .before .before .before .before .before .loop .inv .room)
 
-enum-known-id : tie.Need-enum-known-id Inv-loop μ-loop
-enum-known-id c = search needs
-
-mul-ids : tie.Need-mul-ids Inv-loop μ-loop
-mul-ids c = search needs
-
-array-write-ids : tie.Need-array-write-ids Inv-loop μ-loop
-array-write-ids c = search needs
-
 add-line : tie.Need-add-line Inv-loop μ-loop
 add-line c = omega (arith, line-fits (c .before .before .before .before .before .before .before .loop .inv .going) (omega arith) (rw sub-zero at (sym (c .before .before .before .take-due .ensures) ∙ c .before .id .given .1)))
-
-add-k : tie.Need-add-k Inv-loop μ-loop
-add-k c = search needs
-
-loop-less : tie.Need-loop-less Inv-loop μ-loop
-loop-less c = search needs
 
 loop-again : tie.Need-loop-again Inv-loop μ-loop
 loop-again c = record { small = c .before .before .before .before .before .before .before .loop .inv .small; room = simp length-set (c .before .before .before .before .before .before .before .loop .inv .room); going = took (c .before .before .before .before .before .before .before .loop .inv .going) (omega arith) (rw sub-zero at (sym (c .before .before .before .take-due .ensures) ∙ c .before .id .given .1)) }
@@ -85,17 +58,12 @@ read-boxes-spec =
     Inv-loop
     μ-loop
     loop-holds
-    sub-take-due
-    part-take-due-start
-    part-take-due-end
+    (λ c. search needs) (λ c. search needs) (λ c. search needs)
     take-due-requires
-    enum-known-number
+    (λ c. search needs)
     returns
-    enum-known-id
-    mul-ids
-    array-write-ids
+    (λ c. search needs) (λ c. search needs) (λ c. search needs)
     add-line
-    add-k
-    loop-less
+    (λ c. search needs) (λ c. search needs)
     loop-again
     returns-2)

@@ -5,21 +5,6 @@ use borrow.Author.Needs.{needs}
 use Rattle.sheet.proofs.phases.read_drawing.Statement.{statement}
 use Rattle.sheet.proofs.phases.read_drawing.Tie as tie
 
-read-goes-requires : tie.Need-read-goes-requires
-read-goes-requires c κs = search needs
-
-enum-known-goes : tie.Need-enum-known-goes
-enum-known-goes c = search needs
-
-enum-told : tie.Need-enum-told
-enum-told c = search needs
-
-same-length : tie.Need-same-length
-same-length c = search needs
-
-same-length-2 : tie.Need-same-length-2
-same-length-2 c = search needs
-
 returns : tie.Need-returns
 unfolding drawing
 returns c = (rw (← c .before .before .before .before .before .before .read-goes .ensures .0, c .enum-told .given .1), rw (c .enum-told .given .1) tt)
@@ -27,33 +12,12 @@ returns c = (rw (← c .before .before .before .before .before .before .read-goe
 read-flows-requires : tie.Need-read-flows-requires
 read-flows-requires c κs = (c .before .before .before .before .before .before .before .before .before .before .before .before .before .before .before .pre .0 .0, few-done _ (c .before .goes .given .1) (c .before .before .before .before .before .before .before .read-goes .ensures .1), c .before .before .before .before .before .before .before .before .before .before .before .before .before .before .before .pre .1 .0)
 
-enum-known-phase : tie.Need-enum-known-phase
-enum-known-phase c = search needs
-
-enum-told-2 : tie.Need-enum-told-2
-enum-told-2 c = search needs
-
-same-length-3 : tie.Need-same-length-3
-same-length-3 c = search needs
-
-same-length-4 : tie.Need-same-length-4
-same-length-4 c = search needs
-
 returns-2 : tie.Need-returns-2
 unfolding drawing
 returns-2 c = (rw (← c .before .before .before .before .before .before .before .before .before .before .before .read-goes .ensures .0, c .before .before .before .before .before .goes .given .1, ← c .before .before .before .read-flows .ensures .0, c .enum-told2 .given .1), rw (c .enum-told2 .given .1) tt)
 
 read-views-requires : tie.Need-read-views-requires
 read-views-requires c κs = ((c .before .before .before .before .before .before .before .before .before .before .before .before .before .before .before .before .before .before .before .before .before .pre .0 .0, few-done _ (c .before .before .phase .given .1) (c .before .before .before .before .before .read-flows .ensures .1), c .before .before .before .before .before .before .before .before .before .before .before .before .before .before .before .before .before .before .before .before .before .pre .0 .2, c .before .before .before .before .before .before .before .before .before .before .before .before .before .before .before .before .before .before .before .before .before .pre .0 .4), (c .before .before .before .before .before .before .before .before .before .before .before .before .before .before .before .before .before .before .before .before .before .pre .1 .0, c .before .before .before .before .before .before .before .before .before .before .before .before .before .before .before .before .before .before .before .before .before .pre .1 .3))
-
-same-length-5 : tie.Need-same-length-5
-same-length-5 c = search needs
-
-same-length-6 : tie.Need-same-length-6
-same-length-6 c = search needs
-
-same-length-7 : tie.Need-same-length-7
-same-length-7 c = search needs
 
 returns-3 : tie.Need-returns-3
 unfolding drawing
@@ -63,20 +27,11 @@ pub read-drawing-spec : {M : Type 1} → statement M
 read-drawing-spec =
     tie.close
     (tie.spec
-    read-goes-requires
-    enum-known-goes
-    enum-told
-    same-length
-    same-length-2
+    (λ c κs. search needs) (λ c. search needs) (λ c. search needs) (λ c. search needs) (λ c. search needs)
     returns
     read-flows-requires
-    enum-known-phase
-    enum-told-2
-    same-length-3
-    same-length-4
+    (λ c. search needs) (λ c. search needs) (λ c. search needs) (λ c. search needs)
     returns-2
     read-views-requires
-    same-length-5
-    same-length-6
-    same-length-7
+    (λ c. search needs) (λ c. search needs) (λ c. search needs)
     returns-3)

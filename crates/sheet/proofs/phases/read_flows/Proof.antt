@@ -26,20 +26,8 @@ Inv-loop text from first ids arrows₀ at₀ line₀ arrows at line = At text fr
 abbrev μ-loop : tie.MeasureT-loop
 μ-loop text from first ids arrows₀ at₀ line₀ arrows at line = length text - at
 
-self-arrows-requires : tie.Need-self-arrows-requires Inv-loop μ-loop
-self-arrows-requires c κs = search needs
-
 loop-holds : tie.Need-loop-holds Inv-loop μ-loop
 loop-holds c = record { few-ids = c .before .before .before .pre .2; flowing = record { closed = c .before .before .before .pre .0; few = c .before .before .before .pre .1; room = ap length (c .self-arrows .ensures) ∙ selves-length (length (c .before .before .before .args .ids .now)) (replicate ARROWS false); rest = rw (c .self-arrows .ensures) } }
-
-line-from-requires : tie.Need-line-from-requires Inv-loop μ-loop
-line-from-requires c κs = search needs
-
-enum-known-start : tie.Need-enum-known-start Inv-loop μ-loop
-enum-known-start c = search needs
-
-enum-told : tie.Need-enum-told Inv-loop μ-loop
-enum-told c = search needs
 
 returns : tie.Need-returns Inv-loop μ-loop
 returns c = (let z = line-ended (c .before .before .before .before .before .before .before .before .args .text .now) _ (sym (c .before .before .line-from .ensures) ∙ c .enum-told .given .1) in absurd (omega arith))
@@ -54,32 +42,14 @@ part-flow-line-end : tie.Need-part-flow-line-end Inv-loop μ-loop
 part-flow-line-end c = let p = (line-found (c .before .before .before .before .before .before .before .before .before .args .text .now) (c .before .before .before .before .before .loop .at) (sym (c .before .before .before .line-from .ensures) ∙ c .before .start .given .1)) in
     omega (arith, p, end-within (c .before .before .before .before .before .before .before .before .before .args .text .now) 10 (c .before .before .before .before .before .loop .at) (omega (arith, p)))
 
-flow-line-requires : tie.Need-flow-line-requires Inv-loop μ-loop
-flow-line-requires c κs = search needs
-
-enum-told-2 : tie.Need-enum-told-2 Inv-loop μ-loop
-enum-told-2 c = search needs
-
 returns-2 : tie.Need-returns-2 Inv-loop μ-loop
 returns-2 c = (other (c .before .before .before .before .before .before .before .before .before .loop .inv .flowing) (line-found (c .before .before .before .before .before .before .before .before .before .before .before .before .before .args .text .now) (c .before .before .before .before .before .before .before .before .before .loop .at) (sym (c .before .before .before .before .before .before .before .line-from .ensures) ∙ c .before .before .before .before .before .start .given .1)) (sym (c .before .before .flow-line .ensures) ∙ c .enum-told2 .given .1), c .before .before .before .before .before .before .before .before .before .loop .inv .flowing .few)
-
-enum-known-number : tie.Need-enum-known-number Inv-loop μ-loop
-enum-known-number c = search needs
 
 returns-3 : tie.Need-returns-3 Inv-loop μ-loop
 returns-3 c = (bad (c .before .before .before .before .before .before .before .before .before .before .loop .inv .flowing) (line-found (c .before .before .before .before .before .before .before .before .before .before .before .before .before .before .args .text .now) (c .before .before .before .before .before .before .before .before .before .before .loop .at) (sym (c .before .before .before .before .before .before .before .before .line-from .ensures) ∙ c .before .before .before .before .before .before .start .given .1)) _ (sym (c .before .before .before .flow-line .ensures) ∙ c .before .number .given .1), tt)
 
-enum-known-v : tie.Need-enum-known-v Inv-loop μ-loop
-enum-known-v c = search needs
-
-cast-arrows : tie.Need-cast-arrows Inv-loop μ-loop
-cast-arrows c = search needs
-
 mul-arrows : tie.Need-mul-arrows Inv-loop μ-loop
 mul-arrows c = omega (arith, flow-good (c .before .before .before .before .before .before .before .before .before .before .before .before .before .before .args .ids .now) _ _ _ (inl (sym (c .before .before .before .flow-line .ensures) ∙ c .before .v .given .1)), c .before .before .before .before .before .before .before .before .before .before .loop .inv .few-ids, c .before .before .before .before .before .before .before .before .before .before .loop .inv .flowing .room)
-
-cast-arrows-2 : tie.Need-cast-arrows-2 Inv-loop μ-loop
-cast-arrows-2 c = search needs
 
 add-arrows : tie.Need-add-arrows Inv-loop μ-loop
 add-arrows c = omega (arith, flow-good (c .before .before .before .before .before .before .before .before .before .before .before .before .before .before .args .ids .now) _ _ _ (inl (sym (c .before .before .before .flow-line .ensures) ∙ c .before .v .given .1)), c .before .before .before .before .before .before .before .before .before .before .loop .inv .few-ids, c .before .before .before .before .before .before .before .before .before .before .loop .inv .flowing .room)
@@ -87,17 +57,8 @@ add-arrows c = omega (arith, flow-good (c .before .before .before .before .befor
 array-write-arrows : tie.Need-array-write-arrows Inv-loop μ-loop
 array-write-arrows c = omega (arith, flow-good (c .before .before .before .before .before .before .before .before .before .before .before .before .before .before .args .ids .now) _ _ _ (inl (sym (c .before .before .before .flow-line .ensures) ∙ c .before .v .given .1)), c .before .before .before .before .before .before .before .before .before .before .loop .inv .few-ids, c .before .before .before .before .before .before .before .before .before .before .loop .inv .flowing .room)
 
-enum-known-v-2 : tie.Need-enum-known-v-2 Inv-loop μ-loop
-enum-known-v-2 c = search needs
-
-cast-arrows-3 : tie.Need-cast-arrows-3 Inv-loop μ-loop
-cast-arrows-3 c = search needs
-
 mul-arrows-2 : tie.Need-mul-arrows-2 Inv-loop μ-loop
 mul-arrows-2 c = omega (arith, flow-good (c .before .before .before .before .before .before .before .before .before .before .before .before .before .before .args .ids .now) _ _ _ (inr (sym (c .before .before .before .flow-line .ensures) ∙ c .before .v2 .given .1)), c .before .before .before .before .before .before .before .before .before .before .loop .inv .few-ids, c .before .before .before .before .before .before .before .before .before .before .loop .inv .flowing .room)
-
-cast-arrows-4 : tie.Need-cast-arrows-4 Inv-loop μ-loop
-cast-arrows-4 c = search needs
 
 add-arrows-2 : tie.Need-add-arrows-2 Inv-loop μ-loop
 add-arrows-2 c = omega (arith, flow-good (c .before .before .before .before .before .before .before .before .before .before .before .before .before .before .args .ids .now) _ _ _ (inr (sym (c .before .before .before .flow-line .ensures) ∙ c .before .v2 .given .1)), c .before .before .before .before .before .before .before .before .before .before .loop .inv .few-ids, c .before .before .before .before .before .before .before .before .before .before .loop .inv .flowing .room)
@@ -105,14 +66,8 @@ add-arrows-2 c = omega (arith, flow-good (c .before .before .before .before .bef
 array-write-arrows-2 : tie.Need-array-write-arrows-2 Inv-loop μ-loop
 array-write-arrows-2 c = omega (arith, flow-good (c .before .before .before .before .before .before .before .before .before .before .before .before .before .before .args .ids .now) _ _ _ (inr (sym (c .before .before .before .flow-line .ensures) ∙ c .before .v2 .given .1)), c .before .before .before .before .before .before .before .before .before .before .loop .inv .few-ids, c .before .before .before .before .before .before .before .before .before .before .loop .inv .flowing .room)
 
-cast-arrows-5 : tie.Need-cast-arrows-5 Inv-loop μ-loop
-cast-arrows-5 c = search needs
-
 mul-arrows-3 : tie.Need-mul-arrows-3 Inv-loop μ-loop
 mul-arrows-3 c = omega (arith, flow-good (c .before .before .before .before .before .before .before .before .before .before .before .before .before .before .args .ids .now) _ _ _ (inr (sym (c .before .before .before .flow-line .ensures) ∙ c .before .v2 .given .1)), c .before .before .before .before .before .before .before .before .before .before .loop .inv .few-ids, c .before .before .before .before .before .before .before .before .before .before .loop .inv .flowing .room)
-
-cast-arrows-6 : tie.Need-cast-arrows-6 Inv-loop μ-loop
-cast-arrows-6 c = search needs
 
 add-arrows-3 : tie.Need-add-arrows-3 Inv-loop μ-loop
 add-arrows-3 c = omega (arith, flow-good (c .before .before .before .before .before .before .before .before .before .before .before .before .before .before .args .ids .now) _ _ _ (inr (sym (c .before .before .before .flow-line .ensures) ∙ c .before .v2 .given .1)), c .before .before .before .before .before .before .before .before .before .before .loop .inv .few-ids, c .before .before .before .before .before .before .before .before .before .before .loop .inv .flowing .room)
@@ -141,35 +96,30 @@ read-flows-spec =
     (tie.spec
     Inv-loop
     μ-loop
-    self-arrows-requires
+    (λ c κs. search needs)
     loop-holds
-    line-from-requires
-    enum-known-start
-    enum-told
+    (λ c κs. search needs) (λ c. search needs) (λ c. search needs)
     returns
     sub-flow-line
     part-flow-line-start
     part-flow-line-end
-    flow-line-requires
-    enum-told-2
+    (λ c κs. search needs) (λ c. search needs)
     returns-2
-    enum-known-number
+    (λ c. search needs)
     returns-3
-    enum-known-v
-    cast-arrows
+    (λ c. search needs) (λ c. search needs)
     mul-arrows
-    cast-arrows-2
+    (λ c. search needs)
     add-arrows
     array-write-arrows
-    enum-known-v-2
-    cast-arrows-3
+    (λ c. search needs) (λ c. search needs)
     mul-arrows-2
-    cast-arrows-4
+    (λ c. search needs)
     add-arrows-2
     array-write-arrows-2
-    cast-arrows-5
+    (λ c. search needs)
     mul-arrows-3
-    cast-arrows-6
+    (λ c. search needs)
     add-arrows-3
     array-write-arrows-3
     add-line

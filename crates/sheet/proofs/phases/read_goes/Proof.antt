@@ -55,65 +55,23 @@ loop-holds c = record {
   going = start (due _ _) kept _ _ _ _ _ (c .before .before .before .before .pre .0 .0) (c .before .before .before .before .pre .0 .1);
 }
 
-cast-t19 : tie.Need-cast-t19 Inv-loop μ-loop
-cast-t19 c = search needs
-
-div-t20 : tie.Need-div-t20 Inv-loop μ-loop
-div-t20 c = search needs
-
 cast-t21 : tie.Need-cast-t21 Inv-loop μ-loop
 cast-t21 c = omega (arith, div-le-self (c .before .loop .k) (c .before .before .before .before .before .before .args .actions))
-
-rem-t22 : tie.Need-rem-t22 Inv-loop μ-loop
-rem-t22 c = search needs
 
 cast-t23 : tie.Need-cast-t23 Inv-loop μ-loop
 cast-t23 c = omega (arith, mod-le (c .before .loop .k) (c .before .before .before .before .before .before .args .actions))
 
-take-due-requires : tie.Need-take-due-requires Inv-loop μ-loop
-take-due-requires c κs = search needs
-
-enum-known-number : tie.Need-enum-known-number Inv-loop μ-loop
-enum-known-number c = search needs
-
-same-length : tie.Need-same-length Inv-loop μ-loop
-same-length c = search needs
-
-same-length-2 : tie.Need-same-length-2 Inv-loop μ-loop
-same-length-2 c = search needs
-
 returns : tie.Need-returns Inv-loop μ-loop
 returns c = (stopped (c .before .before .before .before .before .loop .inv .going) (omega arith) _ (sym (c .before .before .before .take-due .ensures) ∙ c .before .number .given .1), tt)
-
-enum-known-state : tie.Need-enum-known-state Inv-loop μ-loop
-enum-known-state c = search needs
 
 cast-next : tie.Need-cast-next Inv-loop μ-loop
 cast-next c = omega (arith, go-good _ _ _ _ (said (c .before .before .before .before .before .loop .inv .going) (omega arith) (sym (c .before .before .before .take-due .ensures) ∙ c .before .state .given .1)))
 
-mul-next : tie.Need-mul-next Inv-loop μ-loop
-mul-next c = search needs
-
-slice-write-next : tie.Need-slice-write-next Inv-loop μ-loop
-slice-write-next c = search needs
-
 cast-outputs : tie.Need-cast-outputs Inv-loop μ-loop
 cast-outputs c = omega (arith, go-good _ _ _ _ (said (c .before .before .before .before .before .loop .inv .going) (omega arith) (sym (c .before .before .before .take-due .ensures) ∙ c .before .state .given .1)))
 
-mul-outputs : tie.Need-mul-outputs Inv-loop μ-loop
-mul-outputs c = search needs
-
-slice-write-outputs : tie.Need-slice-write-outputs Inv-loop μ-loop
-slice-write-outputs c = search needs
-
 add-line : tie.Need-add-line Inv-loop μ-loop
 add-line c = omega (arith, line-fits (c .before .before .before .before .before .loop .inv .going) (omega arith) (sym (c .before .before .before .take-due .ensures) ∙ c .before .state .given .1))
-
-add-k : tie.Need-add-k Inv-loop μ-loop
-add-k c = search needs
-
-loop-less : tie.Need-loop-less Inv-loop μ-loop
-loop-less c = search needs
 
 loop-again : tie.Need-loop-again Inv-loop μ-loop
 loop-again c = record {
@@ -128,12 +86,6 @@ loop-again c = record {
   going = took (c .before .before .before .before .before .loop .inv .going) (omega arith) (sym (c .before .before .before .take-due .ensures) ∙ c .before .state .given .1);
 }
 
-same-length-3 : tie.Need-same-length-3 Inv-loop μ-loop
-same-length-3 c = search needs
-
-same-length-4 : tie.Need-same-length-4 Inv-loop μ-loop
-same-length-4 c = search needs
-
 returns-2 : tie.Need-returns-2 Inv-loop μ-loop
 returns-2 c = (over (c .before .loop .inv .going) (omega arith), c .before .loop .inv .going .few)
 
@@ -145,27 +97,19 @@ read-goes-spec =
     μ-loop
     mul-total
     loop-holds
-    cast-t19
-    div-t20
+    (λ c. search needs) (λ c. search needs)
     cast-t21
-    rem-t22
+    (λ c. search needs)
     cast-t23
-    take-due-requires
-    enum-known-number
-    same-length
-    same-length-2
+    (λ c κs. search needs) (λ c. search needs) (λ c. search needs) (λ c. search needs)
     returns
-    enum-known-state
+    (λ c. search needs)
     cast-next
-    mul-next
-    slice-write-next
+    (λ c. search needs) (λ c. search needs)
     cast-outputs
-    mul-outputs
-    slice-write-outputs
+    (λ c. search needs) (λ c. search needs)
     add-line
-    add-k
-    loop-less
+    (λ c. search needs) (λ c. search needs)
     loop-again
-    same-length-3
-    same-length-4
+    (λ c. search needs) (λ c. search needs)
     returns-2)

@@ -51,26 +51,14 @@ loop-holds c = record {
   going = start (due (c .before .before .before .args .ids .now) _) kept _ _ _ _ _ (c .before .before .before .pre .0 .0) (c .before .before .before .pre .0 .1);
 }
 
-div-position : tie.Need-div-position Inv-loop μ-loop
-div-position c = search needs
-
 mul-t18 : tie.Need-mul-t18 Inv-loop μ-loop
 mul-t18 c = omega (arith, div-le-self (c .before .loop .k) (c .before .before .before .before .before .args .states))
 
 shared-slice-read-t20 : tie.Need-shared-slice-read-t20 Inv-loop μ-loop
 shared-slice-read-t20 c = div-lt-iff-lt-mul (c .before .before .loop .inv .some) .1 (omega arith)
 
-rem-t21 : tie.Need-rem-t21 Inv-loop μ-loop
-rem-t21 c = search needs
-
 cast-t22 : tie.Need-cast-t22 Inv-loop μ-loop
 cast-t22 c = omega (arith, mod-le (c .before .before .loop .k) (c .before .before .before .before .before .before .args .states))
-
-take-due-requires : tie.Need-take-due-requires Inv-loop μ-loop
-take-due-requires c κs = search needs
-
-enum-known-number : tie.Need-enum-known-number Inv-loop μ-loop
-enum-known-number c = search needs
 
 same-length : tie.Need-same-length Inv-loop μ-loop
 same-length c = search needs
@@ -78,26 +66,11 @@ same-length c = search needs
 returns : tie.Need-returns Inv-loop μ-loop
 returns c = (stopped (c .before .before .before .before .before .before .loop .inv .going) (omega arith) _ (sym (c .before .before .before .take-due .ensures) ∙ c .before .number .given .1), tt)
 
-enum-known-class : tie.Need-enum-known-class Inv-loop μ-loop
-enum-known-class c = search needs
-
 cast-views : tie.Need-cast-views Inv-loop μ-loop
 cast-views c = omega (arith, view-good _ _ _ (said (c .before .before .before .before .before .before .loop .inv .going) (omega arith) (sym (c .before .before .before .take-due .ensures) ∙ c .before .class .given .1)))
 
-mul-views : tie.Need-mul-views Inv-loop μ-loop
-mul-views c = search needs
-
-slice-write-views : tie.Need-slice-write-views Inv-loop μ-loop
-slice-write-views c = search needs
-
 add-line : tie.Need-add-line Inv-loop μ-loop
 add-line c = omega (arith, line-fits (c .before .before .before .before .before .before .loop .inv .going) (omega arith) (sym (c .before .before .before .take-due .ensures) ∙ c .before .class .given .1))
-
-add-k : tie.Need-add-k Inv-loop μ-loop
-add-k c = search needs
-
-loop-less : tie.Need-loop-less Inv-loop μ-loop
-loop-less c = search needs
 
 loop-again : tie.Need-loop-again Inv-loop μ-loop
 loop-again c = record {
@@ -110,9 +83,6 @@ loop-again c = record {
   going = took (c .before .before .before .before .before .before .loop .inv .going) (omega arith) (sym (c .before .before .before .take-due .ensures) ∙ c .before .class .given .1);
 }
 
-same-length-2 : tie.Need-same-length-2 Inv-loop μ-loop
-same-length-2 c = search needs
-
 returns-2 : tie.Need-returns-2 Inv-loop μ-loop
 returns-2 c = (over (c .before .loop .inv .going) (omega arith), c .before .loop .inv .going .few)
 
@@ -124,22 +94,19 @@ read-views-spec =
     μ-loop
     mul-total
     loop-holds
-    div-position
+    (λ c. search needs)
     mul-t18
     shared-slice-read-t20
-    rem-t21
+    (λ c. search needs)
     cast-t22
-    take-due-requires
-    enum-known-number
+    (λ c κs. search needs) (λ c. search needs)
     same-length
     returns
-    enum-known-class
+    (λ c. search needs)
     cast-views
-    mul-views
-    slice-write-views
+    (λ c. search needs) (λ c. search needs)
     add-line
-    add-k
-    loop-less
+    (λ c. search needs) (λ c. search needs)
     loop-again
-    same-length-2
+    (λ c. search needs)
     returns-2)

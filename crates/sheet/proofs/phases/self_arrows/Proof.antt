@@ -21,21 +21,6 @@ loop-holds : tie.Need-loop-holds Inv-loop μ-loop
 unfolding selves
 loop-holds c = (c .pre, omega arith, refl)
 
-mul-arrows : tie.Need-mul-arrows Inv-loop μ-loop
-mul-arrows c = search needs
-
-add-arrows : tie.Need-add-arrows Inv-loop μ-loop
-add-arrows c = search needs
-
-array-write-arrows : tie.Need-array-write-arrows Inv-loop μ-loop
-array-write-arrows c = search needs
-
-add-k : tie.Need-add-k Inv-loop μ-loop
-add-k c = search needs
-
-loop-less : tie.Need-loop-less Inv-loop μ-loop
-loop-less c = search needs
-
 loop-again : tie.Need-loop-again Inv-loop μ-loop
 unfolding selves
 loop-again c = (c .before .loop .inv .0, omega arith, rw (add-one (c .before .loop .k), c .before .loop .inv .2))
@@ -50,10 +35,6 @@ self-arrows-spec =
     Inv-loop
     μ-loop
     loop-holds
-    mul-arrows
-    add-arrows
-    array-write-arrows
-    add-k
-    loop-less
+    (λ c. search needs) (λ c. search needs) (λ c. search needs) (λ c. search needs) (λ c. search needs)
     loop-again
     returns)

@@ -8,15 +8,6 @@ use borrow.Author.Needs.{needs}
 use Rattle.sheet.proofs.phases.take_due.Statement.{statement}
 use Rattle.sheet.proofs.phases.take_due.Tie as tie
 
-line-from-requires : tie.Need-line-from-requires
-line-from-requires c κs = search needs
-
-enum-told : tie.Need-enum-told
-enum-told c = search needs
-
-enum-known-start : tie.Need-enum-known-start
-enum-known-start c = search needs
-
 sub-line-due : tie.Need-sub-line-due
 sub-line-due c = omega (arith, line-found (c .before .before .before .before .before .before .args .text .now) (c .before .before .before .before .before .before .args .at) (sym (c .before .before .before .line-from .ensures) ∙ c .before .start .given .1))
 
@@ -26,15 +17,6 @@ part-line-due-start c = omega (arith, line-found (c .before .before .before .bef
 part-line-due-end : tie.Need-part-line-due-end
 part-line-due-end c = let p = line-found (c .before .before .before .before .before .before .args .text .now) (c .before .before .before .before .before .before .args .at) (sym (c .before .before .before .line-from .ensures) ∙ c .before .start .given .1) in
     omega (arith, p, end-within (c .before .before .before .before .before .before .args .text .now) 10 (c .before .before .before .before .before .before .args .at) (omega (arith, p)))
-
-line-due-requires : tie.Need-line-due-requires
-line-due-requires c κs = search needs
-
-enum-known-e : tie.Need-enum-known-e
-enum-known-e c = search needs
-
-enum-known-a : tie.Need-enum-known-a
-enum-known-a c = search needs
 
 returns : tie.Need-returns
 returns c = none-taken (lineDue (c .before .before .before .before .before .args .due) (c .before .before .before .before .before .args .ids .now)) (c .before .before .before .before .before .args .text .now) _ (line-ended (c .before .before .before .before .before .args .text .now) _ (sym (c .before .before .line-from .ensures) ∙ c .enum-told .given .1))
@@ -49,15 +31,11 @@ pub take-due-spec : {M : Type 1} → statement M
 take-due-spec =
     tie.close
     (tie.spec
-    line-from-requires
-    enum-told
-    enum-known-start
+    (λ c κs. search needs) (λ c. search needs) (λ c. search needs)
     sub-line-due
     part-line-due-start
     part-line-due-end
-    line-due-requires
-    enum-known-e
-    enum-known-a
+    (λ c κs. search needs) (λ c. search needs) (λ c. search needs)
     returns
     returns-2
     returns-3)

@@ -18,9 +18,6 @@ Inv-states low states u s₀ s = (s ≤ states) × Held s (λ s. eqb (lowAt low 
 abbrev μ-states : tie.MeasureT-states
 μ-states low states u s₀ s = states - s
 
-states-holds : tie.Need-states-holds Inv-states μ-states
-states-holds c = search sweep-every
-
 low-of-requires : tie.Need-low-of-requires Inv-states μ-states
 low-of-requires c κs = omega arith
 
@@ -49,7 +46,7 @@ alone-spec =
     (tie.spec
     Inv-states
     μ-states
-    states-holds
+    (λ c. search sweep-every)
     low-of-requires
     returns
     add-s

@@ -32,13 +32,12 @@ shared-slice-read-broad c =
     let h = cell STATES ACTIONS (p .1 .2) (le-refl STATES) (p .1 .1) (p .1 .0) in
     omega (arith, p .0)
 
-broad-requires : tie.Need-broad-requires
-broad-requires c κs = search needs
-
-returns : tie.Need-returns
-returns c = search needs
-
 pub at-state-spec : {M : Type 1} → statement M
 at-state-spec =
     tie.close
-    (tie.spec mul-broad add-broad mul-broad-2 shared-slice-read-broad broad-requires returns)
+    (tie.spec
+    mul-broad
+    add-broad
+    mul-broad-2
+    shared-slice-read-broad
+    (λ c κs. search needs) (λ c. search needs))

@@ -5,24 +5,6 @@ use borrow.Author.Needs.{needs}
 use Rattle.views.proofs.guards.first_alike.Statement.{statement}
 use Rattle.views.proofs.guards.first_alike.Tie as tie
 
-entry-requires : tie.Need-entry-requires
-entry-requires c κs = search needs
-
-slot-of-requires : tie.Need-slot-of-requires
-slot-of-requires c κs = search needs
-
-element-copy-out-wide : tie.Need-element-copy-out-wide
-element-copy-out-wide c = search needs
-
-wide-requires : tie.Need-wide-requires
-wide-requires c κs = search needs
-
-narrow-requires : tie.Need-narrow-requires
-narrow-requires c κs = search needs
-
-element-write-slots : tie.Need-element-write-slots
-element-write-slots c = search needs
-
 returns : tie.Need-returns
 returns c =
     let c2 = c .before .before in
@@ -33,9 +15,6 @@ returns c =
           (c .narrow .ensures),
       least-new (c7 .pre .0) (c5 .entry .ensures) (c4 .slot-of .ensures .0) (c2 .wide .ensures) (c .before .if1 .taken),
     )
-
-entry-requires-2 : tie.Need-entry-requires-2
-entry-requires-2 c κs = search needs
 
 returns-2 : tie.Need-returns-2
 returns-2 c =
@@ -48,9 +27,6 @@ returns-2 c =
       least-slot (c8 .pre .0)
           (c6 .entry .ensures) (c5 .slot-of .ensures .0) (c3 .wide .ensures) (c2 .if1 .left) (c .before .entry2 .ensures) (c .if2 .taken),
     )
-
-first-like-requires : tie.Need-first-like-requires
-first-like-requires c κs = search needs
 
 returns-3 : tie.Need-returns-3
 returns-3 c =
@@ -65,14 +41,9 @@ pub first-alike-spec : {M : Type 1} → statement M
 first-alike-spec =
     tie.close
     (tie.spec
-    entry-requires
-    slot-of-requires
-    element-copy-out-wide
-    wide-requires
-    narrow-requires
-    element-write-slots
+    (λ c κs. search needs) (λ c κs. search needs) (λ c. search needs) (λ c κs. search needs) (λ c κs. search needs) (λ c. search needs)
     returns
-    entry-requires-2
+    (λ c κs. search needs)
     returns-2
-    first-like-requires
+    (λ c κs. search needs)
     returns-3)

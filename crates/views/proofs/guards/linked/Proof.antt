@@ -7,9 +7,6 @@ use borrow.Author.Needs.{needs}
 use Rattle.views.proofs.guards.linked.Statement.{statement}
 use Rattle.views.proofs.guards.linked.Tie as tie
 
-spot-of-requires : tie.Need-spot-of-requires
-spot-of-requires c κs = search needs
-
 returns : tie.Need-returns
 returns c =
     record {
@@ -23,4 +20,7 @@ returns-2 : tie.Need-returns-2
 returns-2 c = record { below = λ e. not-both e refl; like = λ e. not-both e refl; other = λ e l k. omega arith }
 
 pub linked-spec : {M : Type 1} → statement M
-linked-spec = tie.close (tie.spec spot-of-requires returns returns-2)
+linked-spec = tie.close (tie.spec
+    (λ c κs. search needs)
+    returns
+    returns-2)

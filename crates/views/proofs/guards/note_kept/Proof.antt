@@ -8,27 +8,12 @@ use borrow.Author.Needs.{needs}
 use Rattle.views.proofs.guards.note_kept.Statement.{statement}
 use Rattle.views.proofs.guards.note_kept.Tie as tie
 
-was-kept-requires : tie.Need-was-kept-requires
-was-kept-requires c κs = search needs
-
 returns : tie.Need-returns
 returns c =
     let c4 = c .before .before .before .before in
     let k = c4 .pre .0 in
     let n = c4 .pre .1 .0 in
     (k, λ e. k .noted _ _ (omega (arith, n .actions-most)) (told _ _ (c .before .was-kept .ensures) (c .if1 .taken)))
-
-keeps-requires : tie.Need-keeps-requires
-keeps-requires c κs = search needs
-
-mul-kept : tie.Need-mul-kept
-mul-kept c = search needs
-
-add-kept : tie.Need-add-kept
-add-kept c = search needs
-
-element-write-kept : tie.Need-element-write-kept
-element-write-kept c = search needs
 
 returns-2 : tie.Need-returns-2
 returns-2 c =
@@ -45,4 +30,9 @@ returns-3 c =
 
 pub note-kept-spec : {M : Type 1} → statement M
 note-kept-spec =
-    tie.close (tie.spec was-kept-requires returns keeps-requires mul-kept add-kept element-write-kept returns-2 returns-3)
+    tie.close (tie.spec
+    (λ c κs. search needs)
+    returns
+    (λ c κs. search needs) (λ c. search needs) (λ c. search needs) (λ c. search needs)
+    returns-2
+    returns-3)

@@ -20,9 +20,6 @@ Inv-states low outputs states actions o a s₀ s = (s ≤ states) × Held s (λ 
 abbrev μ-states : tie.MeasureT-states
 μ-states low outputs states actions o a s₀ s = states - s
 
-states-holds : tie.Need-states-holds Inv-states μ-states
-states-holds c = search sweep-every
-
 low-of-requires : tie.Need-low-of-requires Inv-states μ-states
 low-of-requires c κs = omega arith
 
@@ -71,7 +68,7 @@ quiet-spec =
     (tie.spec
     Inv-states
     μ-states
-    states-holds
+    (λ c. search sweep-every)
     low-of-requires
     at-state-requires
     at-state-requires-2

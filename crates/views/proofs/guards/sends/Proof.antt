@@ -3,14 +3,10 @@ use borrow.Author.Needs.{needs}
 use Rattle.views.proofs.guards.sends.Statement.{statement}
 use Rattle.views.proofs.guards.sends.Tie as tie
 
-at-state-requires : tie.Need-at-state-requires
-at-state-requires c κs = search needs
-
-low-of-requires : tie.Need-low-of-requires
-low-of-requires c κs = search needs
-
 returns : tie.Need-returns
 returns c = cc
 
 pub sends-spec : {M : Type 1} → statement M
-sends-spec = tie.close (tie.spec at-state-requires low-of-requires returns)
+sends-spec = tie.close (tie.spec
+    (λ c κs. search needs) (λ c κs. search needs)
+    returns)

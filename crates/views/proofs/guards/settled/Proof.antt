@@ -18,17 +18,11 @@ returns c =
     let p = c3 .pre .1 in
     (c3 .pre .0, λ e. keeps-calm _ (p .1 .1 .1 .0 .noted _ _ (omega (arith, p .0 .actions-most)) (told _ _ (c .before .was-kept .ensures) (c .if1 .taken))))
 
-is-alone-requires : tie.Need-is-alone-requires
-is-alone-requires c κs = search needs
-
 returns-2 : tie.Need-returns-2
 returns-2 c =
     let c5 = c .before .before .before .before .before in
     let p = c5 .pre .1 in
     (c5 .pre .0, λ e. alone-owner _ _ _ _ _ _ _ (p .1 .1 .1 .1 .0 .alone _ (told _ _ (c .before .is-alone .ensures) (c .if2 .taken))))
-
-strong-requires : tie.Need-strong-requires
-strong-requires c κs = search needs
 
 returns-3 : tie.Need-returns-3
 returns-3 c =
@@ -41,9 +35,14 @@ weak-requires c κs =
     let p = c8 .pre in
     (p .0, (p .1 .0, (p .1 .1 .0, p .1 .1 .1 .1 .1 .1)))
 
-returns-4 : tie.Need-returns-4
-returns-4 c = search needs
-
 pub settled-spec : {M : Type 1} → statement M
 settled-spec =
-    tie.close (tie.spec was-kept-requires returns is-alone-requires returns-2 strong-requires returns-3 weak-requires returns-4)
+    tie.close (tie.spec
+    was-kept-requires
+    returns
+    (λ c κs. search needs)
+    returns-2
+    (λ c κs. search needs)
+    returns-3
+    weak-requires
+    (λ c. search needs))

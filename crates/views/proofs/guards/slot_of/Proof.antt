@@ -6,12 +6,11 @@ use borrow.Author.Needs.{needs}
 use Rattle.views.proofs.guards.slot_of.Statement.{statement}
 use Rattle.views.proofs.guards.slot_of.Tie as tie
 
-add-result : tie.Need-add-result
-add-result c = search needs
-
 returns : tie.Need-returns
 unfolding slotOf
 returns c = (refl, omega arith)
 
 pub slot-of-spec : {M : Type 1} → statement M
-slot-of-spec = tie.close (tie.spec add-result returns)
+slot-of-spec = tie.close (tie.spec
+    (λ c. search needs)
+    returns)

@@ -6,14 +6,8 @@ use borrow.Author.Needs.{needs}
 use Rattle.views.proofs.guards.spot_of.Statement.{statement}
 use Rattle.views.proofs.guards.spot_of.Tie as tie
 
-low-of-requires : tie.Need-low-of-requires
-low-of-requires c κs = search needs
-
 mul-result : tie.Need-mul-result
 mul-result c = let h = low-small _ _ (c .before .pre .0) (c .low-of .ensures) in omega arith
-
-low-of-requires-2 : tie.Need-low-of-requires-2
-low-of-requires-2 c κs = search needs
 
 add-result : tie.Need-add-result
 add-result c =
@@ -30,4 +24,9 @@ returns c =
     (cc, omega arith)
 
 pub spot-of-spec : {M : Type 1} → statement M
-spot-of-spec = tie.close (tie.spec low-of-requires mul-result low-of-requires-2 add-result returns)
+spot-of-spec = tie.close (tie.spec
+    (λ c κs. search needs)
+    mul-result
+    (λ c κs. search needs)
+    add-result
+    returns)

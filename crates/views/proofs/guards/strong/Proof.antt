@@ -19,9 +19,6 @@ Inv-states low next states actions u a s₀ s = (s ≤ states) × Held s (λ s. 
 abbrev μ-states : tie.MeasureT-states
 μ-states low next states actions u a s₀ s = states - s
 
-states-holds : tie.Need-states-holds Inv-states μ-states
-states-holds c = search sweep-every
-
 low-of-requires : tie.Need-low-of-requires Inv-states μ-states
 low-of-requires c κs = (c .before .before .before .pre .1 .1 .0, omega (arith, c .before .before .before .pre .0 .states-most))
 
@@ -93,7 +90,7 @@ strong-spec =
     (tie.spec
     Inv-states
     μ-states
-    states-holds
+    (λ c. search sweep-every)
     low-of-requires
     add-s
     states-less

@@ -30,9 +30,6 @@ spot-of-requires c κs =
 element-copy-out-wide : tie.Need-element-copy-out-wide Inv-states μ-states
 element-copy-out-wide c = omega (arith, c .spot-of .ensures .1)
 
-wide-requires : tie.Need-wide-requires Inv-states μ-states
-wide-requires c κs = search needs
-
 linked-requires : tie.Need-linked-requires Inv-states μ-states
 linked-requires c κs =
     let c6 = c .before .before .before .before .before .before in
@@ -122,7 +119,7 @@ weak-spec =
     states-holds
     spot-of-requires
     element-copy-out-wide
-    wide-requires
+    (λ c κs. search needs)
     linked-requires
     sends-requires
     sends-requires-2

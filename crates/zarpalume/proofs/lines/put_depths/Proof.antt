@@ -18,49 +18,13 @@ boxes-holds : tie.Need-boxes-holds Inv-boxes μ-boxes
 unfolding depthLines
 boxes-holds c = (omega arith, growing-none _)
 
-id-requires : tie.Need-id-requires Inv-boxes μ-boxes
-id-requires c κs = search needs
-
-mul-depth : tie.Need-mul-depth Inv-boxes μ-boxes
-mul-depth c = search needs
-
-element-copy-out-depth : tie.Need-element-copy-out-depth Inv-boxes μ-boxes
-element-copy-out-depth c = search needs
-
 cast-depth : tie.Need-cast-depth Inv-boxes μ-boxes
 cast-depth c = let h = c .before .before .before .before .before .before .pre .1 (c .before .before .before .before .boxes .u) in omega arith
-
-sub-put-pair : tie.Need-sub-put-pair Inv-boxes μ-boxes
-sub-put-pair c = search needs
-
-part-put-pair-start : tie.Need-part-put-pair-start Inv-boxes μ-boxes
-part-put-pair-start c = search needs
-
-part-put-pair-end : tie.Need-part-put-pair-end Inv-boxes μ-boxes
-part-put-pair-end c = search needs
-
-slice-aggregate-put-pair : tie.Need-slice-aggregate-put-pair Inv-boxes μ-boxes
-slice-aggregate-put-pair c = search needs
-
-put-pair-requires : tie.Need-put-pair-requires Inv-boxes μ-boxes
-put-pair-requires c κs = search needs
-
-add-at : tie.Need-add-at Inv-boxes μ-boxes
-add-at c = search needs
-
-add-u : tie.Need-add-u Inv-boxes μ-boxes
-add-u c = search needs
-
-boxes-less : tie.Need-boxes-less Inv-boxes μ-boxes
-boxes-less c = search needs
 
 boxes-again : tie.Need-boxes-again Inv-boxes μ-boxes
 boxes-again c =
     let g = c .before .before .before .before .before .before .before .before .before .boxes in
     (omega arith, depth-more _ _ _ _ (g .inv .1) (omega arith) (c .before .before .put-pair .ensures .0) (c .before .before .put-pair .ensures .1) (c .before .before .before .before .before .before .id .ensures))
-
-same-length : tie.Need-same-length Inv-boxes μ-boxes
-same-length c = search needs
 
 returns : tie.Need-returns Inv-boxes μ-boxes
 returns c =
@@ -76,18 +40,10 @@ put-depths-spec =
     Inv-boxes
     μ-boxes
     boxes-holds
-    id-requires
-    mul-depth
-    element-copy-out-depth
+    (λ c κs. search needs) (λ c. search needs) (λ c. search needs)
     cast-depth
-    sub-put-pair
-    part-put-pair-start
-    part-put-pair-end
-    slice-aggregate-put-pair
-    put-pair-requires
-    add-at
-    add-u
-    boxes-less
+    (λ c. search needs) (λ c. search needs) (λ c. search needs) (λ c. search needs) (λ c κs. search needs) (λ c. search needs)
+    (λ c. search needs) (λ c. search needs)
     boxes-again
-    same-length
+    (λ c. search needs)
     returns)

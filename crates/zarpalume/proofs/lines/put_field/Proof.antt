@@ -5,17 +5,11 @@ use native.Mathlib.Omega.{arith}
 use Rattle.zarpalume.proofs.lines.put_field.Statement.{statement}
 use Rattle.zarpalume.proofs.lines.put_field.Tie as tie
 
-put-number-requires : tie.Need-put-number-requires
-put-number-requires c κs = search needs
-
 slice-write-tail : tie.Need-slice-write-tail
 slice-write-tail c = let w = number-whole _ (search needs) (c .before .before .put-number .ensures) in let n = w .1 in omega arith
 
 add-result : tie.Need-add-result
 add-result c = let w = number-whole _ (search needs) (c .before .before .put-number .ensures) in let n = w .1 in omega arith
-
-same-length : tie.Need-same-length
-same-length c = search needs
 
 returns : tie.Need-returns
 returns c =
@@ -25,4 +19,9 @@ returns c =
 
 pub put-field-spec : {M : Type 1} → statement M
 put-field-spec =
-    tie.close (tie.spec put-number-requires slice-write-tail add-result same-length returns)
+    tie.close (tie.spec
+    (λ c κs. search needs)
+    slice-write-tail
+    add-result
+    (λ c. search needs)
+    returns)
