@@ -15,7 +15,7 @@ use Rattle.noninterference.specs.Rounds.{seesAlike, alike, neededIn, arrowsFrom
 use Rattle.noninterference.proofs.NeededList.{list-unique}
 use Rattle.noninterference.proofs.Reached.{reach}
 use Rattle.noninterference.proofs.Rounds.{depth-unique}
-use Rattle.model.specs.Limits.{NEXT-ENTRIES, OUTPUT-ENTRIES, VIEW-ENTRIES, LIST-ENTRIES}
+use Rattle.model.specs.Limits.{BOXES, NEXT-ENTRIES, OUTPUT-ENTRIES, VIEW-ENTRIES, LIST-ENTRIES}
 use Rattle.model.specs.Denoted.{machineOf}
 use Rattle.model.specs.declared.Machine.{Machine}
 use Rattle.model.specs.declared.Model.{Model}
@@ -112,7 +112,7 @@ module _ (needed : Machine → Table → Table → Table → Needs × Table) (d 
     given = needed (c .model .machine) (next c) (outputs c) blank
 
     abbrev FoundHere : Type 0
-    FoundHere = (count reach : ℕ) × (given .0 .outcome ≡ Found count reach) × Demand (machine c) count reach (given .0 .depths) (given .1)
+    FoundHere = (count reach : ℕ) × (given .0 .outcome ≡ Found count reach) × (length (given .0 .depths) ≡ BOXES) × Demand (machine c) count reach (given .0 .depths) (given .1)
 
     found : FoundHere
     found =
@@ -122,14 +122,14 @@ module _ (needed : Machine → Table → Table → Table → Needs × Table) (d 
     list-is : (ps : List (ℕ × ℕ)) → NeedsThese c ps → given .1 ≡ padded (arrowsOf c ps)
     unfolding padded
     list-is ps n =
-        let w = found .3 in
+        let w = found .4 in
         sym (take-append-drop (2 * found .0) (given .1)) ∙ rw (w .on-list, w .rest-zero, w .counted, list-unique (machine c) _ _ (w .needed) (n .0))
 
     depth-is : (ds : List ℕ) → DepthsAre c ds → (u : ℕ) → u < c .model .machine .boxes → getD (given .0 .depths) u 0 ≡ getD ds u 0
-    depth-is ds h u l = depth-unique (machine c) u _ _ (found .3 .depth u l) (h .0 u l)
+    depth-is ds h u l = depth-unique (machine c) u _ _ (found .4 .depth u l) (h .0 u l)
 
     reach-is : (n : ℕ) → ReachIs c n → given .0 .outcome ≡ Found (found .0) n
-    reach-is n h = found .2 ∙ ap (Found (found .0)) (found .3 .reachable (inside k) (s .1) ∙ h .0 (inside k) (s .1))
+    reach-is n h = found .2 ∙ ap (Found (found .0)) (found .4 .reachable (inside k) (s .1) ∙ h .0 (inside k) (s .1))
 
   abbrev at-p2 : Sound p2 register
   at-p2 = cases-sound .1 .0

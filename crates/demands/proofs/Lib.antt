@@ -1,6 +1,8 @@
 pub mod Refusing
 pub mod Reading
 pub mod Demands
+pub mod Answers
+pub mod Only
 pub mod Fakes
 pub mod Rows
 pub mod Bytes

@@ -40,7 +40,7 @@ all-small : (t : Bytes) → Small (told (sheetText t))
 all-small t = go (sheetText t) refl
   where
     go : (rd : Reading) → sheetText t ≡ rd → Small (told rd)
-    go (refusal n l) e = let h = number-small n (number-of-text (refused-means t n l e)) in let k = line-small t e in (omega arith, omega arith)
+    go (refusal n l) e = let h = number-small n (number-of-text (refused-means t n l e)) in let k = line-small t e in (omega (arith, h), omega arith)
     go (model states actions boxes start p) e = after.all-small t e
 
 -- ---- the first line

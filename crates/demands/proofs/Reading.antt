@@ -2,13 +2,13 @@
 -- Assumes nothing.
 use mathlib.Core.Path.{_≡_, refl, sym, ap, _∙_}
 use mathlib.Core.Logic.{_↔_, ⊎-elim}
-use mathlib.Core.Bool.{Bool, true, false, cond, _&&_}
+use mathlib.Core.Bool.{Bool, true, false, _&&_}
 use mathlib.Core.List.{List, [], _∷_}
-use Prim.Native.Nat.{ℕ, _≤_}
+use Prim.Native.Nat.{ℕ, _<_, _≤_}
 use native.Mathlib.Omega.{arith}
 use lib.Dec.{eqb, ltb, leb}
 use lib.ListN.{length}
-use borrow.Author.Tests.{eqb-true, ltb-false, le-ltb, leb-true}
+use borrow.Author.Tests.{eqb-true, ltb-true, ltb-false, lt-ltb, le-ltb, leb-true}
 use Rattle.laws.specs.Choice.{both, either, choose}
 use Rattle.laws.proofs.Tests.{by-test, not-both, both-true, either-true}
 use Rattle.model.specs.Limits.{NEXT-ENTRIES, OUTPUT-ENTRIES, VIEW-ENTRIES, VERDICT-BYTES}
@@ -17,12 +17,11 @@ use Rattle.sheet.specs.Words as words
 use Rattle.sheet.specs.Numbers.{word}
 use Rattle.sheet.specs.Table.{Row}
 use Rattle.sheet.specs.Meaning.{Situation, atSheet, atBox, atAct, atGo, atFlow, atView, atEnd, rowsAt, FirstRow, here, later, Refused, ended, bad, good, RefusedText, whole, byLine}
-use Rattle.sheet.specs.Reading.{Reading, model, refusal, given, Outcome, outcome, refusedAs, zeros, read, sheetText}
+use Rattle.sheet.specs.Reading.{Parts, Reading, model, refusal, given, Outcome, outcome, refusedAs, zeros, read, sheetText}
 use Rattle.sheet.proofs.Table.{refused-means, means-refused}
 use Rattle.sheet.specs.declared.Answer.{Answer}
 use Rattle.sheet.specs.declared.Answer.the-variants as answers
 use Rattle.sheet.specs.Label.{labelPlace, placed, foundIn, labelFound, labelled, labelOf, label}
-use Rattle.sheet.specs.declared.Found.the-variants as found
 use Rattle.zarpalume.specs.Verdict.{call, callOf}
 use Rattle.zarpalume.proofs.Called.{call-bad}
 use Rattle.demands.specs.Refusals.{ThreeTables, TextRefusal, ten, text, LabelRefusal, thirteen, left}
@@ -30,7 +29,7 @@ use Rattle.demands.proofs.Refusing.{three-fit}
 
 -- ---- a text is refused with one of the numbers 1 to 9 and 11
 unfoldable pub ofText : ℕ → Bool
-ofText n = either (leb n 9) (eqb n 11)
+ofText n = either (both (ltb 0 n) (leb n 9)) (eqb n 11)
 
 unfoldable allOfText : List Row → Bool
 allOfText [] = true
@@ -52,23 +51,25 @@ rows-of-text (atView z ids k) l = refl
 rows-of-text atEnd l = refl
 
 lines-of-text : {s : Situation} {ls : List (List ℕ)} {n e m : ℕ} → Refused s ls n e m → ofText e ≡ true
-unfolding ofText either
+unfolding ofText either both
 lines-of-text (ended c) = refl
 lines-of-text (bad {s} {l} f) = first-of-text (rows-of-text s l) f
 lines-of-text (good a b c d f e r) = lines-of-text r
 
 pub number-of-text : {t : List ℕ} {e n : ℕ} → RefusedText t e n → ofText e ≡ true
-unfolding ofText either
+unfolding ofText either both
 number-of-text (whole q) = refl
 number-of-text (byLine q r) = lines-of-text r
 
-pub number-small : (e : ℕ) → ofText e ≡ true → e ≤ 11
+pub number-small : (e : ℕ) → ofText e ≡ true → (0 < e) × (e ≤ 11)
 unfolding ofText
 number-small e h =
-    ⊎-elim (λ l. let k : e ≤ 9 = leb-true e 9 l in omega arith) (λ q. let k : e ≡ 11 = eqb-true e 11 q in omega arith) (either-true _ _ h)
+    ⊎-elim
+    (λ l. let p = both-true _ _ l in let j : 0 < e = ltb-true 0 e (p .0) in let k : e ≤ 9 = leb-true e 9 (p .1) in (omega arith, omega arith))
+    (λ q. let k : e ≡ 11 = eqb-true e 11 q in (omega arith, omega arith)) (either-true _ _ h)
 
 not-ten : (e : ℕ) → ofText e ≡ true → eqb e 10 ≡ false
-unfolding ofText either
+unfolding ofText either both
 not-ten e h = by-test (eqb e 10) (λ q. not-both h (ap ofText (eqb-true e 10 q))) (λ q. q)
 
 -- ---- the reader
@@ -102,7 +103,7 @@ module _ (t next outputs views : List ℕ) where
   wrong k = by-test (eqb (length next) NEXT-ENTRIES && eqb (length outputs) OUTPUT-ENTRIES && eqb (length views) VIEW-ENTRIES)
       (λ e. absurd (k (lengths-test .0 e))) (λ e. rw e left-ten)
 
-  right : ThreeTables next outputs views → read t next outputs views ≡ given (sheetText t)
+  pub right : ThreeTables next outputs views → read t next outputs views ≡ given (sheetText t)
   unfolding read
   right h = rw (lengths-test .1 h)
 
@@ -140,26 +141,32 @@ module _ (t next outputs views : List ℕ) where
 
 -- ---- the label call
 module _ (t : List ℕ) (position : ℕ) where
-  pub label-refused : (n l : ℕ) → LabelRefusal t position n l ↔ (label t position ≡ labelled [] 0 n l)
+  pub label-whole : {n l : ℕ} → LabelRefusal t position n l → label t position ≡ labelled [] 0 n l
   unfolding labelFound
-  label-refused n l = (to, from (sheetText t) refl)
-    where
-      to : {n l : ℕ} → LabelRefusal t position n l → label t position ≡ labelled [] 0 n l
-      to (text r) = ap (λ rd. labelOf t (foundIn rd t position)) (means-refused t _ _ r)
-      to (thirteen states actions boxes start p e h) = ap (λ rd. labelOf t (foundIn rd t position)) e ∙ rw (le-ltb _ _ h) refl
+  label-whole (text r) = ap (λ rd. labelOf t (foundIn rd t position)) (means-refused t _ _ r)
+  label-whole (thirteen states actions boxes start p e h) = ap (λ rd. labelOf t (foundIn rd t position)) e ∙ rw (le-ltb _ _ h) refl
 
-      from : (rd : Reading) → sheetText t ≡ rd → label t position ≡ labelled [] 0 n l → LabelRefusal t position n l
-      from (model states actions boxes start p) q e =
-          let f : labelOf t (foundIn (model states actions boxes start p) t position) ≡ labelled [] 0 n l = sym (ap (λ rd. labelOf t (foundIn rd t position)) q) ∙ e in
+  some-number : {n l : ℕ} → LabelRefusal t position n l → 0 < n
+  some-number (text r) = number-small _ (number-of-text r) .0
+  some-number (thirteen states actions boxes start p e h) = omega arith
+
+  pub label-found : (states actions boxes start : ℕ) (p : Parts) → sheetText t ≡ model states actions boxes start p → position < boxes →
+      label t position ≡ labelOf t (placed (labelPlace t position))
+  unfolding labelFound
+  label-found states actions boxes start p e h = ap (λ rd. labelOf t (foundIn rd t position)) e ∙ rw (lt-ltb _ _ h) refl
+
+  moved-label : {n l n′ l′ : ℕ} → label t position .number ≡ n′ → label t position .line ≡ l′ → LabelRefusal t position n l → LabelRefusal t position n′ l′
+  moved-label a b r = let w = label-whole r in rw (← a, ← b, w) r
+
+  pub label-refused : (n l : ℕ) → LabelRefusal t position n l ↔ ((0 < n) × (label t position .number ≡ n) × (label t position .line ≡ l))
+  label-refused n l = (λ r. (some-number r, ap (λ x. x .number) (label-whole r), ap (λ x. x .line) (label-whole r)), λ h. from h (sheetText t) refl)
+    where
+      from : (0 < n) × (label t position .number ≡ n) × (label t position .line ≡ l) → (rd : Reading) → sheetText t ≡ rd → LabelRefusal t position n l
+      from h (model states actions boxes start p) q =
           by-test (ltb position boxes)
-          (λ b. let s = ap (λ r. r .start) (sym (ap (λ c. labelOf t (cond c (placed (labelPlace t position)) (found.Refused 13 0))) b) ∙ f) in absurd (omega arith))
-          (λ b. let g = sym (ap (λ c. labelOf t (cond c (placed (labelPlace t position)) (found.Refused 13 0))) b) ∙ f in
-          let u = ap (λ r. r .number) g in let v = ap (λ r. r .line) g in
-          rw (← u, ← v) (thirteen states actions boxes start p q (ltb-false _ _ b)))
-      from (refusal n′ l′) q e =
-          let f : labelled [] 0 n′ l′ ≡ labelled [] 0 n l = sym (ap (λ rd. labelOf t (foundIn rd t position)) q) ∙ e in
-          let a = ap (λ r. r .number) f in let b = ap (λ r. r .line) f in
-          rw (← a, ← b) (text (refused-means t n′ l′ q))
+          (λ b. let z : 0 ≡ n = sym (ap (λ x. x .number) (label-found states actions boxes start p q (ltb-true _ _ b))) ∙ h .1 in absurd (omega (arith, h .0)))
+          (λ b. moved-label (h .1) (h .2) (thirteen states actions boxes start p q (ltb-false _ _ b)))
+      from h (refusal n′ l′) q = moved-label (h .1) (h .2) (text (refused-means t n′ l′ q))
 
 -- ---- the verdict
 pub verdict-refused : (t buffer : List ℕ) → ¬ (length buffer ≡ VERDICT-BYTES) → callOf t buffer ≡ call 0 buffer

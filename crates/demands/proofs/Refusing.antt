@@ -74,7 +74,7 @@ module _ {A B lengths good asked : Type 0} {f g h : Bool} {x y : A} (refused : �
   pub refused-exactly : ((n l : ℕ) → Refusal lengths good asked n l ↔ (part y ≡ part (refused n l))) × ((n l : ℕ) → part y ≡ part (refused n l) → y ≡ refused n l)
   refused-exactly = (λ n l. (λ r. ap part (as-said r), only-then n l), λ n l e. as-said (only-then n l e))
 
-no-question : (true ≡ true) ↔ Unit {0}
+pub no-question : (true ≡ true) ↔ Unit {0}
 no-question = (λ e. tt, λ u. refl)
 
 pub three-fit : (a b c x y z : ℕ) → (both (eqb a x) (both (eqb b y) (eqb c z)) ≡ true) ↔ ((a ≡ x) × (b ≡ y) × (c ≡ z))
@@ -146,13 +146,13 @@ module _ (m : Machine) (next outputs list : List ℕ) where
 
 -- ---- the reachable states
 module _ (m : Machine) (next : List ℕ) where
-  abbrev both-parts : states.Outcome → List Bool → states.Outcome × List Bool
+  abbrev pub both-parts : states.Outcome → List Bool → states.Outcome × List Bool
   both-parts outcome flags = (outcome, flags)
 
-  abbrev reachable : states.Outcome × List Bool
+  abbrev pub reachable : states.Outcome × List Bool
   reachable = both-parts states′.Found (tabulate STATES λ s. both (ltb s (m .states)) (reached (moving m next) s))
 
-  abbrev none-reachable : ℕ → ℕ → states.Outcome × List Bool
+  abbrev pub none-reachable : ℕ → ℕ → states.Outcome × List Bool
   none-reachable n l = both-parts (states′.Refused n l) (replicate STATES false)
 
   abbrev first : states.Outcome × List Bool → states.Outcome
@@ -167,7 +167,7 @@ module _ (m : Machine) (next : List ℕ) where
   all-false : (n : ℕ) → tabulate n (λ s. false) ≡ replicate n false
   all-false n = sym (tabulated false n (λ s. false) (replicate n false) (length-replicate n false) (λ i l. getD-replicate n i false false l))
 
-  flags-chosen : both-parts (outcomeOf m next) (flagsOf m next)
+  pub flags-chosen : both-parts (outcomeOf m next) (flagsOf m next)
       ≡ choose (eqb (length next) NEXT-ENTRIES) (choose (machineTableFits m next) (choose true reachable (none-reachable 13 0)) (none-reachable 12 0)) (none-reachable 10 0)
   unfolding outcomeOf flagsOf choose both
   flags-chosen =
@@ -186,7 +186,7 @@ module _ (m : Machine) (next : List ℕ) where
 
 -- ---- purge
 module _ (m : Model) (kind : Kind) (position : ℕ) (run kept : List ℕ) where
-  question-test : (asked m position run ≡ true) ↔ Question m position run
+  pub question-test : (asked m position run ≡ true) ↔ Question m position run
   unfolding asked namesActions
   question-test = (
     λ e. let a = both-true _ _ e in

@@ -10,7 +10,7 @@ use Rattle.noninterference.specs.Purge.{intransitive}
 use Rattle.noninterference.specs.Secure.{Secure}
 use Rattle.noninterference.specs.Conditions.{Conditions, ByView}
 use Rattle.noninterference.specs.Place.{Place, FirstBroken, OfAny}
-use Rattle.model.specs.Limits.{STATES, NEXT-ENTRIES, VERDICT-BYTES}
+use Rattle.model.specs.Limits.{BOXES, STATES, NEXT-ENTRIES, VERDICT-BYTES}
 use Rattle.model.specs.Denoted.{machineOf, policyOf, viewOf}
 use Rattle.model.specs.Good.{GoodMachine, GoodTable, GoodDrawing}
 use Rattle.model.specs.declared.Machine.{Machine}
@@ -43,7 +43,9 @@ pub record Demand1 (calls : Calls) : Type 0 where
       TextRefusal (ThreeTables next outputs views) t n l ↔ (calls .read t next outputs views .sheet .answer ≡ sheets.Refused n l)
   pub read-then : (t : Bytes) (next outputs views : Table) (n l : ℕ) → calls .read t next outputs views .sheet .answer ≡ sheets.Refused n l →
       calls .read t next outputs views ≡ outcome (refusedAs n l) (left n next) (left n outputs) (left n views)
-  pub label : (t : Bytes) (position n l : ℕ) → LabelRefusal t position n l ↔ (calls .label t position ≡ labelled [] 0 n l)
+  pub label : (t : Bytes) (position n l : ℕ) →
+      LabelRefusal t position n l ↔ ((0 < n) × (calls .label t position .number ≡ n) × (calls .label t position .line ≡ l))
+  pub label-then : (t : Bytes) (position n l : ℕ) → LabelRefusal t position n l → calls .label t position ≡ labelled [] 0 n l
   pub judge : (m : Model) (next outputs views : Table) (n l : ℕ) →
       TableRefusal (ThreeTables next outputs views) (GoodModel m next) n l ↔ (calls .judge m next outputs views ≡ judgements.Refused n l)
   pub needed : (m : Machine) (next outputs list : Table) (n l : ℕ) →
@@ -76,7 +78,7 @@ pub record Demand2 (judge : Model → Table → Table → Table → Judgement) :
 -- Demand 3: the needed list, depths and reach are as defined; no arrow, id or view is handed in
 pub record Demand3 (needed : Machine → Table → Table → Table → Needs × Table) : Type 0 where
   pub found : (m : Machine) (next outputs list : Table) → TablesAndList next outputs list → GoodTable m next →
-      (count reach : ℕ) × (needed m next outputs list .0 .outcome ≡ Found count reach)
+      (count reach : ℕ) × (needed m next outputs list .0 .outcome ≡ Found count reach) × (length (needed m next outputs list .0 .depths) ≡ BOXES)
       × Demand (machineOf m next outputs) count reach (needed m next outputs list .0 .depths) (needed m next outputs list .1)
 
 -- ---- on the verdict's bytes

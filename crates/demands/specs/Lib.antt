@@ -4,3 +4,4 @@ pub mod Told
 pub mod Printed
 pub mod Demands
 pub mod Ours
+pub mod Answers
