@@ -26,16 +26,19 @@ make_archive() {
   tools/fresh "$archive" rt staticlib zarpalume >"$folder/staticlib.log" 2>&1 || { cat "$folder/staticlib.log"; return 1; }
 }
 
-# make_rust NAME SOURCE...: a Rust program of the tests, from the first of its sources.
+# make_rust NAME SOURCE...: a Rust program of the tests, from the first of its sources; one test at a time makes it.
 make_rust() {
   local made=$folder/$1 source
   want rustc rustc || return 1
-  for source in "${@:2}"; do
-    if [[ ! $made -nt $source ]]; then
-      rustc -O --edition 2021 -o "$made" "$2"
-      return
-    fi
-  done
+  (
+    flock 9
+    for source in "${@:2}"; do
+      if [[ ! $made -nt $source ]]; then
+        rustc -O --edition 2021 -o "$made" "$2"
+        exit
+      fi
+    done
+  ) 9>"$made.lock"
 }
 
 make_second() {
