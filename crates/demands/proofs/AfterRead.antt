@@ -23,7 +23,7 @@ use Rattle.noninterference.specs.Rounds.{depthOf, neededList}
 use Rattle.noninterference.proofs.NeededList.{needed-list}
 use Rattle.noninterference.proofs.Reached.{reach as reaches}
 use Rattle.noninterference.proofs.Rounds.{depth-below, depth-computed}
-use Rattle.model.specs.Limits.{LIST-ENTRIES}
+use Rattle.model.specs.Limits.{LIST-ENTRIES, STATES}
 use Rattle.model.specs.Denoted.{machineOf, policyOf, viewOf}
 use Rattle.model.specs.Good.{GoodTable, GoodDrawing}
 use Rattle.model.specs.Refused.{modelTableFits, machineTableFits}
@@ -187,7 +187,7 @@ module _ (t : List ℕ) {states actions boxes start : ℕ} {p : Parts} (e : shee
           let b = h (x .source) (x .target) (inl refl) in
           ((id-fits _ (b .0), id-fits _ (b .1)), go xs (λ v u k. h v u (inr k)))
 
-  reach-small : reach ≤ 128
+  reach-small : reach ≤ STATES
   reach-small = let h = count-le states (reached M) in let k = good .0 .machine .states-most in omega arith
 
   depth-small : (u : ℕ) → depthOf M u ≤ LARGEST

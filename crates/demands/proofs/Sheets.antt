@@ -9,7 +9,7 @@ use native.Mathlib.Omega.{arith}
 use native.Mathlib.Nat.{div-le-self, mod-le, mul-le-mul}
 use lib.ListN.{length, getD, take, replicate, length-replicate}
 use borrow.Author.Tests.{eq-eqb, lt-ltb, le-leb}
-use Rattle.model.specs.Limits.{BOXES, ACTIONS, ARROWS, VIEW-ENTRIES, SHEET-BYTES, LARGEST-ID, LARGEST-NUMBER}
+use Rattle.model.specs.Limits.{BOXES, ACTIONS, ARROWS, VIEW-ENTRIES, SHEET-BYTES, LARGEST-ID, LARGEST-NUMBER, STATES}
 use Rattle.text.specs.Lines.{lines}
 use Rattle.sheet.specs.declared.Record.{Record}
 use Rattle.sheet.specs.Records.{position}
@@ -96,10 +96,10 @@ module _ (p : Paper) (g : Good p) where
   abbrev ids : List ℕ
   ids = idsOf (p .boxes)
 
-  steps-few : p .states * p .actions ≤ 128 * 32
+  steps-few : p .states * p .actions ≤ STATES * ACTIONS
   steps-few = mul-le-mul (g .states-in .1) (g .actions-in .1)
 
-  classes-few : length (p .boxes) * p .states ≤ 16 * 128
+  classes-few : length (p .boxes) * p .states ≤ BOXES * STATES
   classes-few = mul-le-mul (g .boxes-in .1) (g .states-in .1)
 
   went : (k : ℕ) (s : Steps) (x : Step) → k < p .states * p .actions → (x .next < p .states) × (x .output ≤ LARGEST-NUMBER) → Went (p .states) (p .actions) k x

@@ -17,17 +17,17 @@ use Rattle.laws.specs.Range.{Held}
 use Rattle.laws.proofs.Tests.{by-test, not-both, both-of, both-true, both-no}
 use Rattle.laws.proofs.Range.{every-at, every-of, every-held, every-not, held-more, first-at, first-none}
 use Rattle.laws.proofs.Cells.{cell, row}
-use Rattle.model.specs.Limits.{STATES, ACTIONS}
+use Rattle.model.specs.Limits.{STATES, ACTIONS, NEXT-ENTRIES, OUTPUT-ENTRIES}
 use Rattle.needs.specs.Tables.{entry, Steps}
 use Rattle.needs.specs.Classes.{lowest, agrees, Missed, Below, Led}
 use Rattle.needs.proofs.Classes.{lowest-le, lowest-holds}
 
 -- ---- the cells of the tables
 module _ {states actions : ℕ} {next : List ℕ} (w : Steps states actions next) where
-  pub step-cell : {s a : ℕ} → s < states → a < actions → s * actions + a < 4096
+  pub step-cell : {s a : ℕ} → s < states → a < actions → s * actions + a < NEXT-ENTRIES
   step-cell ls la = cell STATES ACTIONS ls (w .states-most) la (w .actions-most)
 
-  pub step-row : {s : ℕ} → s < states → s * actions ≤ 4096
+  pub step-row : {s : ℕ} → s < states → s * actions ≤ NEXT-ENTRIES
   step-row ls = row STATES ACTIONS ls (w .states-most) (w .actions-most)
 
 -- ---- two states agree
@@ -128,8 +128,8 @@ module _ (inside : ℕ → Bool) (E : ℕ → ℕ → Bool) where
   led-below {d} h = record { upto = λ s l. rw (h .each s l) (lowest-le inside E s) }
 
 -- ---- the outputs of a box's actions
-pub output-cell : {actions s a : ℕ} → actions ≤ 32 → s < 128 → a < actions → s * actions + a < 4096
+pub output-cell : {actions s a : ℕ} → actions ≤ ACTIONS → s < STATES → a < actions → s * actions + a < OUTPUT-ENTRIES
 output-cell {actions} l ls la = cell STATES ACTIONS ls (omega arith) la l
 
-pub output-row : {actions s : ℕ} → actions ≤ 32 → s < 128 → s * actions ≤ 4096
+pub output-row : {actions s : ℕ} → actions ≤ ACTIONS → s < STATES → s * actions ≤ OUTPUT-ENTRIES
 output-row l ls = row STATES ACTIONS ls (omega arith) l

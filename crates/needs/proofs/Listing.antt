@@ -17,9 +17,9 @@ use Rattle.laws.proofs.Range.{by-order}
 use Rattle.noninterference.specs.Needed.{Arrow, arrow}
 use Rattle.noninterference.specs.Rounds.{arrowsFrom, arrowsUpto}
 use Rattle.noninterference.proofs.Ascending.{upto-length}
-use Rattle.model.specs.Limits.{LIST-ENTRIES}
+use Rattle.model.specs.Limits.{LIST-ENTRIES, BOXES}
 use Rattle.needs.specs.Marks.{wantedIn}
-use Rattle.needs.specs.Listed.{flat, padded, Written}
+use Rattle.needs.specs.Listed.{PAIRS, flat, padded, Written}
 
 -- ---- the list is cleared
 pub filled-long : {list : List ℕ} {i e : ℕ} (l : List ℕ) → e ≡ length l → i ≤ e → list ≡ replicate i 0 ++ drop i l → length list ≡ length l
@@ -50,7 +50,7 @@ flat-more (x ∷ l) v u = ap (λ t. x .source ∷ x .target ∷ t) (flat-more l 
 length-more : (l : List Arrow) (v u : ℕ) → length (l ++ (arrow v u ∷ [])) ≡ length l + 1
 length-more l v u = length-append l (arrow v u ∷ [])
 
-written-more : {list list′ : List ℕ} {l : List Arrow} {n : ℕ} (v u : ℕ) → Written list l n → n < 240 →
+written-more : {list list′ : List ℕ} {l : List Arrow} {n : ℕ} (v u : ℕ) → Written list l n → n < PAIRS →
     list′ ≡ set (set list (2 * n) v) (2 * n + 1) u → Written list′ (l ++ (arrow v u ∷ [])) (n + 1)
 unfolding padded
 written-more {list} {list′} {l} {n} v u h room e = record {
@@ -104,7 +104,7 @@ module _ (test : ℕ → ℕ → Bool) (n v : ℕ) {list : List ℕ} where
   unfolding arrowsFrom choose
   row-skip e h = rw (add-one, e) h
 
-  pub row-more : {list′ : List ℕ} {k u : ℕ} → test v u ≡ true → k < 240 → Written list (arrowsUpto test n v ++ arrowsFrom test v u) k →
+  pub row-more : {list′ : List ℕ} {k u : ℕ} → test v u ≡ true → k < PAIRS → Written list (arrowsUpto test n v ++ arrowsFrom test v u) k →
       list′ ≡ set (set list (2 * k) v) (2 * k + 1) u → Written list′ (arrowsUpto test n v ++ arrowsFrom test v (u + 1)) (k + 1)
   unfolding arrowsFrom choose
   row-more {list′} {k} {u} e room h w =
@@ -137,8 +137,8 @@ row-most test v e (suc u) =
     (λ t. rw t
     (omega arith, λ l. by-order v u (λ k. let b : length (arrowsFrom test v u) < u = h .1 k in omega arith) (λ k. absurd (omega arith)) (λ k. omega arith)))
 
-pub wanted-room : {boxes v u k : ℕ} {list : List ℕ} (table : List Bool) → boxes ≤ 16 → v < boxes → u < boxes → wantedIn table v u ≡ true →
-    Written list (arrowsUpto (wantedIn table) boxes v ++ arrowsFrom (wantedIn table) v u) k → k < 240
+pub wanted-room : {boxes v u k : ℕ} {list : List ℕ} (table : List Bool) → boxes ≤ BOXES → v < boxes → u < boxes → wantedIn table v u ≡ true →
+    Written list (arrowsUpto (wantedIn table) boxes v ++ arrowsFrom (wantedIn table) v u) k → k < PAIRS
 wanted-room {boxes} {v} {u} {k} table most lv lu t h =
     let a : length (arrowsUpto (wantedIn table) boxes v) ≤ v * (boxes - 1) =
     upto-length (wantedIn table) boxes (λ x l. wanted-self table x) v (omega arith) in
@@ -147,7 +147,7 @@ wanted-room {boxes} {v} {u} {k} table most lv lu t h =
     by-order v u (λ l. let x : length (arrowsFrom (wantedIn table) v u) < u = r .1 l in omega arith)
     (λ l. let x : length (arrowsFrom (wantedIn table) v u) ≤ u = r .0 in omega arith)
     (λ q. not-both (subst (λ x. wantedIn table v x ≡ true) (sym q) t) (wanted-self table v)) in
-    let d : suc v * (boxes - 1) ≤ 16 * 15 = mul-le-mul {n₁ = suc v} {m₁ = boxes - 1} {n₂ = 16} {m₂ = 15} (omega arith) (omega arith) in
+    let d : suc v * (boxes - 1) ≤ 16 * 15 = mul-le-mul {n₁ = suc v} {m₁ = boxes - 1} {n₂ = BOXES} {m₂ = 15} (omega arith) (omega arith) in
     let s : k ≡ length (arrowsUpto (wantedIn table) boxes v) + length (arrowsFrom (wantedIn table) v u) =
     h .count ∙ length-append (arrowsUpto (wantedIn table) boxes v) (arrowsFrom (wantedIn table) v u) in
     omega (arith, suc-mul v (boxes - 1))

@@ -79,10 +79,10 @@ quiet-next {states} {actions} {next} {c} {d} inside dd h = record {
 
 -- ---- the first class number of unmarked states is kept for the later ones
 module _ {actions : ℕ} {next c : List ℕ} {inside marks : List Bool} where
-  pub leads-none : Leads actions next c (replicate STATES 128) inside marks 0
+  pub leads-none : Leads actions next c (replicate STATES STATES) inside marks 0
   leads-none = record {
-    long = length-replicate {A = ℕ} STATES 128;
-    known = λ i l k. let e = getD-replicate {A = ℕ} STATES i 128 0 l in absurd (omega arith);
+    long = length-replicate {A = ℕ} STATES STATES;
+    known = λ i l k. let e = getD-replicate {A = ℕ} STATES i STATES 0 l in absurd (omega arith);
   }
 
   later : {i l n : ℕ} → LeadAt actions next c inside marks i l n → LeadAt actions next c inside marks i l (n + 1)
@@ -134,7 +134,7 @@ module _ {actions : ℕ} {next : List ℕ} {before : List Bool} where
   module _ {s a : ℕ} (h : BeforesTo actions next before s a) where
     pub befores-more : {x : ℕ} → x ≡ stepIn actions next s a → x < STATES → s < STATES → BeforesTo actions next (set before (x * STATES + s) true) s (a + 1)
     befores-more {x} e lx ls =
-        let fits : x * 128 + s < length before = omega (arith, h .long) in
+        let fits : x * STATES + s < length before = omega (arith, h .long) in
         record {
           long = length-set before (x * STATES + s) true ∙ h .long;
           rows = λ t y p q. set-stays before (x * STATES + s) (stepIn actions next t y * STATES + t) fits (h .rows t y p q);

@@ -71,14 +71,14 @@ marked-same {table} {table′} {u} q m h = record {
 pub marked-put : {table table′ : List Bool} {u : ℕ} {p : ℕ → Bool} (q : ℕ → Bool) (o : ℕ) → Marked table table′ u p → o < BOXES → u < BOXES →
     q o ≡ true → ((v : ℕ) → v ≢ o → p v ≡ q v) → Marked table (set table′ (o * BOXES + u) true) u q
 marked-put {table} {table′} {u} {p} q o m lo lu e h = record {
-  long = length-set table′ (o * 16 + u) true ∙ m .long;
+  long = length-set table′ (o * BOXES + u) true ∙ m .long;
   column = λ v l. by-test (eqb v o)
       (λ z. let s : v ≡ o = eqb-true v o z in
-      ap (λ x. getD (set table′ (o * 16 + u) true) (x * 16 + u) false) s ∙ getD-set-same table′ (o * 16 + u) true false (omega (arith, m .long))
+      ap (λ x. getD (set table′ (o * BOXES + u) true) (x * BOXES + u) false) s ∙ getD-set-same table′ (o * BOXES + u) true false (omega (arith, m .long))
       ∙ sym (either-last (cellAt table v u) (ap q s ∙ e)))
       (λ z. let s : v ≢ o = eqb-false v o z in
-      getD-set-other table′ (o * 16 + u) (v * 16 + u) true false (λ y. s (omega arith)) ∙ m .column v l ∙ ap (either (cellAt table v u)) (h v s));
-  others = λ v w lv lw n. getD-set-other table′ (o * 16 + u) (v * 16 + w) true false (λ y. n (omega arith)) ∙ m .others v w lv lw n;
+      getD-set-other table′ (o * BOXES + u) (v * BOXES + u) true false (λ y. s (omega arith)) ∙ m .column v l ∙ ap (either (cellAt table v u)) (h v s));
+  others = λ v w lv lw n. getD-set-other table′ (o * BOXES + u) (v * BOXES + w) true false (λ y. n (omega arith)) ∙ m .others v w lv lw n;
 }
 
 marked-join : {table table′ table″ : List Bool} {u : ℕ} {p q : ℕ → Bool} → Marked table table′ u p → Marked table′ table″ u q →

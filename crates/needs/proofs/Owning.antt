@@ -16,7 +16,7 @@ use Rattle.laws.specs.Choice.{both}
 use Rattle.laws.specs.Range.{Held}
 use Rattle.laws.proofs.Tests.{agree, brings-at, brings-of}
 use Rattle.laws.proofs.Range.{every-at, every-of, every-held, every-not, held-more}
-use Rattle.model.specs.Limits.{ACTIONS}
+use Rattle.model.specs.Limits.{ACTIONS, OUTPUT-ENTRIES}
 use Rattle.needs.specs.Tables.{entry, seenIn}
 use Rattle.needs.specs.Classes.{Missed, Led}
 use Rattle.needs.specs.Starts.{Begun, Began}
@@ -65,7 +65,7 @@ module _ {owners : List ℕ} {u : ℕ} {list : List ℕ} where
     pub owned-all : (actions : ℕ) → a ≤ actions → actions ≤ a → Owned owners actions u list n
     owned-all actions l m = let q : a ≡ actions = omega arith in subst (λ b. Owned owners b u list n) q h
 
-pub listing-of : {owners outputs : List ℕ} {actions u : ℕ} {list : List ℕ} {n : ℕ} → Owned owners actions u list n → length outputs ≡ 4096 → actions ≤ 32 →
+pub listing-of : {owners outputs : List ℕ} {actions u : ℕ} {list : List ℕ} {n : ℕ} → Owned owners actions u list n → length outputs ≡ OUTPUT-ENTRIES → actions ≤ ACTIONS →
     Listing outputs actions list n
 listing-of h e l = record { outputs-long = e; actions-most = l; most = h .most; within = h .within }
 

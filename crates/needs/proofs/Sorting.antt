@@ -145,7 +145,7 @@ pub sorting-none : {m : Machine} {next outputs : List ℕ} {inside : List Bool} 
 sorting-none {m} {next} {outputs} g w = record { fits = g; known = w; sorted = sorted-none m next outputs w }
 
 module _ {m : Machine} {next outputs : List ℕ} {inside table : List Bool} {depths : List ℕ} {u : ℕ} (h : Sorting m next outputs inside table depths u) where
-  pub box-small : m .boxes ≤ 16
+  pub box-small : m .boxes ≤ BOXES
   box-small = h .fits .good .machine .boxes-most
 
   pub owners-in : {owners : List ℕ} → owners ≡ m .owners → Owners (m .actions) owners

@@ -15,6 +15,7 @@ use lib.Seq.{getD-set-same, getD-set-other}
 use Rattle.laws.specs.Choice.{both}
 use Rattle.laws.proofs.Tests.{by-test, not-both, both-of, both-true}
 use Rattle.laws.proofs.Range.{below-suc}
+use Rattle.model.specs.Limits.{STATES}
 use Rattle.needs.specs.Tables.{stepIn, entry, Steps}
 use Rattle.needs.specs.Classes.{lowest, agrees, Missed, Below}
 use Rattle.needs.specs.Starts.{SLOTS, slotOf, nextSlot, Begun, Began}
@@ -143,5 +144,5 @@ pub below-other : {states : ℕ} {c : List ℕ} {s x : ℕ} → Below states c �
 below-other {states} {c} {s} {x} w l n e =
     ⊎-elim (λ (q : entry c s ≡ s). absurd (n q)) (λ (q : entry c s < s). omega arith) (eq-or-lt-of-le (w .upto s l))
 
-pub below-small : {states actions : ℕ} {next c : List ℕ} {s x : ℕ} → Steps states actions next → Below states c → s < states → x ≡ entry c s → x < 128
+pub below-small : {states actions : ℕ} {next c : List ℕ} {s x : ℕ} → Steps states actions next → Below states c → s < states → x ≡ entry c s → x < STATES
 below-small w b l e = omega (arith, w .states-most, b .upto _ l)

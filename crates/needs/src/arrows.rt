@@ -3,10 +3,11 @@ ghost use mathlib.Core.Path.{_≡_};
 ghost use Prim.Native.Nat.{_+_, _*_, _<_, _≤_};
 ghost use lib.ListN.{length, set, replicate};
 ghost use Rattle.noninterference.specs.Rounds.{arrowsUpto};
+ghost use Rattle.model.specs.Limits.{BOXES, ARROWS, LIST-ENTRIES};
 ghost use Rattle.reach.specs.Set.{flagAt};
 ghost use Rattle.needs.specs.Tables.{stepIn, entry, Steps};
 ghost use Rattle.needs.specs.Marks.{Owners, movers, sources, Marked, wantedIn};
-ghost use Rattle.needs.specs.Listed.{Written};
+ghost use Rattle.needs.specs.Listed.{PAIRS, Written};
 use crate::numbers::narrow16;
 use crate::numbers::step;
 use model::ACTIONS;
@@ -27,8 +28,8 @@ pub(crate) fn mark_state(
 )
     requires { ⌜ Steps states actions (now next) ⌝ }
     requires { ⌜ Owners actions (now owners) ⌝ }
-    requires { ⌜ (s < states) × (u < 16) ⌝ }
-    requires { ⌜ length (now table) ≡ 256 ⌝ }
+    requires { ⌜ (s < states) × (u < BOXES) ⌝ }
+    requires { ⌜ length (now table) ≡ ARROWS ⌝ }
     ensures { λ r. ⌜ Marked (now (table .entry)) (now (table .exit)) u (movers (now (owners .entry)) (stepIn actions (now (next .entry))) actions (entry (now (c .entry))) s) ⌝ }
 {
     'actions: for a in 0..actions {
@@ -54,8 +55,8 @@ pub(crate) fn mark(
 )
     requires { ⌜ Steps states actions (now next) ⌝ }
     requires { ⌜ Owners actions (now owners) ⌝ }
-    requires { ⌜ u < 16 ⌝ }
-    requires { ⌜ length (now table) ≡ 256 ⌝ }
+    requires { ⌜ u < BOXES ⌝ }
+    requires { ⌜ length (now table) ≡ ARROWS ⌝ }
     ensures { λ r. ⌜ Marked (now (table .entry)) (now (table .exit)) u (sources (now (owners .entry)) (stepIn actions (now (next .entry))) actions (entry (now (c .entry))) (flagAt (now (inside .entry))) states) ⌝ }
 {
     'states: for s in 0..states {
@@ -68,7 +69,7 @@ pub(crate) fn mark(
 
 // Whether the arrow from v to u goes on the list.
 pub(crate) fn wanted(table: &[bool; ARROWS], v: usize, u: usize) -> bool
-    requires { ⌜ (v < 16) × (u < 16) ⌝ }
+    requires { ⌜ (v < BOXES) × (u < BOXES) ⌝ }
     ensures { λ r. ⌜ r ≡ wantedIn (now (table .entry)) v u ⌝ }
 {
     if v == u {
@@ -79,7 +80,7 @@ pub(crate) fn wanted(table: &[bool; ARROWS], v: usize, u: usize) -> bool
 
 // Writes the n-th pair.
 pub(crate) fn put(list: &mut [u16], n: usize, v: usize, u: usize)
-    requires { ⌜ (length (now list) ≡ 480) × (n < 240) × (v < 16) × (u < 16) ⌝ }
+    requires { ⌜ (length (now list) ≡ LIST-ENTRIES) × (n < PAIRS) × (v < BOXES) × (u < BOXES) ⌝ }
     ensures { λ r. ⌜ now (list .exit) ≡ set (set (now (list .entry)) (2 * n) v) (2 * n + 1) u ⌝ }
 {
     list[2 * n] = narrow16(v);
@@ -94,7 +95,7 @@ pub(crate) fn write_row(
     list: &mut [u16],
     before: usize,
 ) -> usize
-    requires { ⌜ (boxes ≤ 16) × (v < boxes) ⌝ }
+    requires { ⌜ (boxes ≤ BOXES) × (v < boxes) ⌝ }
     requires { ⌜ Written (now list) (arrowsUpto (wantedIn (now table)) boxes v) before ⌝ }
     ensures { λ r. ⌜ Written (now (list .exit)) (arrowsUpto (wantedIn (now (table .entry))) boxes (v + 1)) r ⌝ }
 {
@@ -111,8 +112,8 @@ pub(crate) fn write_row(
 
 // Writes all arrows, source ascending, then target.
 pub(crate) fn write_list(table: &[bool; ARROWS], boxes: usize, list: &mut [u16]) -> usize
-    requires { ⌜ boxes ≤ 16 ⌝ }
-    requires { ⌜ now list ≡ replicate 480 0 ⌝ }
+    requires { ⌜ boxes ≤ BOXES ⌝ }
+    requires { ⌜ now list ≡ replicate LIST-ENTRIES 0 ⌝ }
     ensures { λ r. ⌜ Written (now (list .exit)) (arrowsUpto (wantedIn (now (table .entry))) boxes boxes) r ⌝ }
 {
     let mut n = 0;

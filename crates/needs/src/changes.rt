@@ -2,6 +2,7 @@
 ghost use mathlib.Core.Path.{_≡_};
 ghost use Prim.Native.Nat.{_<_, _≤_};
 ghost use lib.ListN.{length};
+ghost use Rattle.model.specs.Limits.{STATES};
 ghost use Rattle.needs.specs.Tables.{Steps};
 ghost use Rattle.needs.specs.Classes.{Below};
 ghost use Rattle.needs.specs.Again.{Befores, Merged, Touched, Moved, Places, Covered};
@@ -28,7 +29,7 @@ pub(crate) fn befores(next: &[u16], states: usize, actions: usize) -> [bool; PAI
 
 // Marks the states that lead to x too.
 pub(crate) fn merge(marks: &mut [bool; STATES], before: &[bool; PAIRS], x: usize)
-    requires { ⌜ (x < 128) × (length (now marks) ≡ 128) ⌝ }
+    requires { ⌜ (x < STATES) × (length (now marks) ≡ STATES) ⌝ }
     ensures { λ r. ⌜ Merged (now (before .entry)) (now (marks .entry)) (now (marks .exit)) x ⌝ }
 {
     'states: for s in 0..STATES {
@@ -64,7 +65,7 @@ pub(crate) fn touched(
 
 // How many states have each class number.
 pub(crate) fn sizes(d: &[u8; STATES], states: usize) -> [u8; STATES]
-    requires { ⌜ (states ≤ 128) × Below states (now d) ⌝ }
+    requires { ⌜ (states ≤ STATES) × Below states (now d) ⌝ }
 {
     let mut sizes = [0u8; STATES];
     'states: for s in 0..states {
@@ -82,7 +83,7 @@ const FEW: usize = 8;
 
 // The number of the largest part of each class, so that few states are marked. Whatever it is, the rounds are right.
 pub(crate) fn largest(c: &[u8; STATES], d: &[u8; STATES], states: usize) -> [u8; STATES]
-    requires { ⌜ (states ≤ 128) × Below states (now c) ⌝ }
+    requires { ⌜ (states ≤ STATES) × Below states (now c) ⌝ }
     requires { ⌜ Below states (now d) ⌝ }
 {
     let sizes = sizes(d, states);

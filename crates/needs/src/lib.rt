@@ -9,6 +9,7 @@ mod starts;
 ghost use mathlib.Core.Path.{_≡_};
 ghost use lib.ListN.{replicate};
 ghost use Rattle.noninterference.specs.Rounds.{neededList};
+ghost use Rattle.model.specs.Limits.{LIST-ENTRIES};
 ghost use Rattle.model.specs.Denoted.{machineOf};
 ghost use Rattle.reach.specs.Set.{listed, flagAt, has};
 ghost use Rattle.needs.specs.Tables.{entry, Fitting};
@@ -168,7 +169,7 @@ fn flags_of(reached: Set) -> [bool; STATES]
 fn found(machine: Machine, next: &[u16], outputs: &[u16], reached: Set, list: &mut [u16]) -> Needs
     requires { ⌜ Fitting machine (now next) (now outputs) ⌝ }
     requires { ⌜ Known (machineOf machine (now next) (now outputs)) (has reached) ⌝ }
-    requires { ⌜ now list ≡ replicate 480 0 ⌝ }
+    requires { ⌜ now list ≡ replicate LIST-ENTRIES 0 ⌝ }
     ensures { λ r. ⌜ r ≡ foundIn (machineOf machine (now (next .entry)) (now (outputs .entry))) ⌝ }
     ensures { λ r. ⌜ now (list .exit) ≡ padded (neededList (machineOf machine (now (next .entry)) (now (outputs .entry)))) ⌝ }
 {

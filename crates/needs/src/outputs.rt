@@ -5,9 +5,10 @@ ghost use lib.Dec.{eqb};
 ghost use lib.ListN.{length, getD};
 ghost use Rattle.laws.specs.Choice.{both};
 ghost use Rattle.laws.specs.Range.{some};
+ghost use Rattle.model.specs.Limits.{STATES, ACTIONS, OUTPUT-ENTRIES};
 ghost use Rattle.reach.specs.Set.{flagAt};
 ghost use Rattle.needs.specs.Classes.{lowest, Missed, Led};
-ghost use Rattle.needs.specs.Starts.{Begun};
+ghost use Rattle.needs.specs.Starts.{SLOTS, Begun};
 ghost use Rattle.needs.specs.Own.{Owned, Listing, outputIn, seenBy, outputSlot, noClass};
 use crate::numbers::narrow;
 use crate::numbers::wide;
@@ -25,7 +26,7 @@ pub(crate) struct Own {
 
 // The actions of u.
 pub(crate) fn own_actions(owners: &[u8; ACTIONS], actions: usize, u: usize) -> Own
-    requires { ⌜ actions ≤ 32 ⌝ }
+    requires { ⌜ actions ≤ ACTIONS ⌝ }
     ensures { λ r. ⌜ Owned (now (owners .entry)) actions u (r .list) (r .count) ⌝ }
 {
     let mut list = [0u8; ACTIONS];
@@ -42,7 +43,7 @@ pub(crate) fn own_actions(owners: &[u8; ACTIONS], actions: usize, u: usize) -> O
 
 // The output of an action in a state.
 pub(crate) fn output(outputs: &[u16], actions: usize, s: usize, a: usize) -> usize
-    requires { ⌜ (length (now outputs) ≡ 4096) × (actions ≤ 32) × (s < 128) × (a < actions) ⌝ }
+    requires { ⌜ (length (now outputs) ≡ OUTPUT-ENTRIES) × (actions ≤ ACTIONS) × (s < STATES) × (a < actions) ⌝ }
     ensures { λ r. ⌜ (r ≡ outputIn actions (now (outputs .entry)) s a) × (r < 65536) ⌝ }
 {
     wide16(outputs[s * actions + a])
@@ -58,7 +59,7 @@ pub(crate) fn seen_alike(
     s: usize,
 ) -> bool
     requires { ⌜ Listing (now outputs) actions (now own) count ⌝ }
-    requires { ⌜ (t < 128) × (s < 128) ⌝ }
+    requires { ⌜ (t < STATES) × (s < STATES) ⌝ }
     ensures { λ r. ⌜ r ≡ seenBy (now (own .entry)) count (now (outputs .entry)) actions t s ⌝ }
 {
     'actions: for i in 0..count {
@@ -83,7 +84,7 @@ pub(crate) fn joins_first(
     s: usize,
 ) -> bool
     requires { ⌜ Listing (now outputs) actions (now own) count ⌝ }
-    requires { ⌜ (t < 128) × (s < 128) ⌝ }
+    requires { ⌜ (t < STATES) × (s < STATES) ⌝ }
     ensures { λ r. ⌜ r ≡ both (flagAt (now (inside .entry)) t) (seenBy (now (own .entry)) count (now (outputs .entry)) actions t s) ⌝ }
 {
     if inside[t] {
@@ -101,8 +102,8 @@ pub(crate) fn output_slot(
     s: usize,
 ) -> usize
     requires { ⌜ Listing (now outputs) actions (now own) count ⌝ }
-    requires { ⌜ s < 128 ⌝ }
-    ensures { λ r. ⌜ (r ≡ outputSlot (now (own .entry)) count (now (outputs .entry)) actions s) × (r < 256) ⌝ }
+    requires { ⌜ s < STATES ⌝ }
+    ensures { λ r. ⌜ (r ≡ outputSlot (now (own .entry)) count (now (outputs .entry)) actions s) × (r < SLOTS) ⌝ }
 {
     let mut slot = 0;
     'actions: for i in 0..count {
@@ -127,7 +128,7 @@ pub(crate) fn seen_from(
     requires { ⌜ Listing (now outputs) actions (now own) count ⌝ }
     requires { ⌜ Led (flagAt (now inside)) (seenBy (now own) count (now outputs) actions) (now d) s ⌝ }
     requires { ⌜ Missed (flagAt (now inside)) (seenBy (now own) count (now outputs) actions) s start ⌝ }
-    requires { ⌜ (start ≤ s) × (s < 128) ⌝ }
+    requires { ⌜ (start ≤ s) × (s < STATES) ⌝ }
     ensures { λ r. ⌜ r ≡ lowest (flagAt (now (inside .entry))) (seenBy (now (own .entry)) count (now (outputs .entry)) actions) s ⌝ }
     ensures { λ r. ⌜ r ≤ s ⌝ }
 {
@@ -156,7 +157,7 @@ pub(crate) fn first_seen(
     requires { ⌜ Listing (now outputs) actions (now own) count ⌝ }
     requires { ⌜ Led (flagAt (now inside)) (seenBy (now own) count (now outputs) actions) (now d) s ⌝ }
     requires { ⌜ Begun (flagAt (now inside)) (seenBy (now own) count (now outputs) actions) noClass (outputSlot (now own) count (now outputs) actions) (now starts) s ⌝ }
-    requires { ⌜ s < 128 ⌝ }
+    requires { ⌜ s < STATES ⌝ }
     ensures { λ r. ⌜ r ≡ lowest (flagAt (now (inside .entry))) (seenBy (now (own .entry)) count (now (outputs .entry)) actions) s ⌝ }
     ensures { λ r. ⌜ r ≤ s ⌝ }
     ensures { λ r. ⌜ Begun (flagAt (now (inside .entry))) (seenBy (now (own .entry)) count (now (outputs .entry)) actions) noClass (outputSlot (now (own .entry)) count (now (outputs .entry)) actions) (now (starts .exit)) (s + 1) ⌝ }
@@ -182,7 +183,7 @@ pub(crate) fn first_round(
     actions: usize,
 ) -> [u8; STATES]
     requires { ⌜ Listing (now outputs) actions (now own) count ⌝ }
-    requires { ⌜ states ≤ 128 ⌝ }
+    requires { ⌜ states ≤ STATES ⌝ }
     ensures { λ r. ⌜ Led (flagAt (now (inside .entry))) (seenBy (now (own .entry)) count (now (outputs .entry)) actions) r states ⌝ }
 {
     let mut d = [0u8; STATES];

@@ -6,6 +6,7 @@ ghost use Prim.Native.Nat.{_+_, _<_, _≤_};
 ghost use lib.Dec.{eqb};
 ghost use Rattle.laws.specs.Choice.{both, brings};
 ghost use Rattle.laws.specs.Range.{every};
+ghost use Rattle.model.specs.Limits.{STATES};
 ghost use Rattle.reach.specs.Set.{flagAt};
 ghost use Rattle.needs.specs.Tables.{stepIn, entry, Steps};
 ghost use Rattle.needs.specs.Classes.{lowest, Missed, agrees, Below, Led};
@@ -143,7 +144,7 @@ pub(crate) fn next_number(
     requires { ⌜ Leads actions (now next) (now c) (now lead) (now inside) (now marks) s ⌝ }
     requires { ⌜ Begun (flagAt (now inside)) (agrees (stepIn actions (now next)) actions (entry (now c))) (entry (now c)) (nextSlot actions (now next) (now c)) (now starts) s ⌝ }
     requires { ⌜ s < states ⌝ }
-    ensures { λ r. ⌜ (r ≡ lowest (flagAt (now (inside .entry))) (agrees (stepIn actions (now (next .entry))) actions (entry (now (c .entry)))) s) × (r < 128) ⌝ }
+    ensures { λ r. ⌜ (r ≡ lowest (flagAt (now (inside .entry))) (agrees (stepIn actions (now (next .entry))) actions (entry (now (c .entry)))) s) × (r < STATES) ⌝ }
     ensures { λ r. ⌜ Leads actions (now (next .entry)) (now (c .entry)) (now (lead .exit)) (now (inside .entry)) (now (marks .entry)) (s + 1) ⌝ }
     ensures { λ r. ⌜ Begun (flagAt (now (inside .entry))) (agrees (stepIn actions (now (next .entry))) actions (entry (now (c .entry)))) (entry (now (c .entry))) (nextSlot actions (now (next .entry)) (now (c .entry))) (now (starts .exit)) (s + 1) ⌝ }
 {
@@ -236,7 +237,7 @@ pub(crate) fn settled(inside: &[bool; STATES], moved: &[u8; STATES], count: usiz
 
 // Whether all states that count have number 0: one class, which no round splits.
 pub(crate) fn one_class(inside: &[bool; STATES], c: &[u8; STATES], states: usize) -> bool
-    requires { ⌜ states ≤ 128 ⌝ }
+    requires { ⌜ states ≤ STATES ⌝ }
     ensures { λ r. ⌜ r ≡ every states (λ s. brings (flagAt (now (inside .entry)) s) (eqb (entry (now (c .entry)) s) 0)) ⌝ }
 {
     'states: for s in 0..states {

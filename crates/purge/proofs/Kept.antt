@@ -13,6 +13,7 @@ use Rattle.laws.specs.Lists.{All, any}
 use Rattle.laws.proofs.Tests.{by-test}
 use Rattle.noninterference.specs.Purge.{Policy, plain, intransitive, purge, sources, keeps}
 use Rattle.noninterference.proofs.Sources.{keeps-is}
+use Rattle.model.specs.Limits.{BOXES, ACTIONS}
 use Rattle.purge.specs.Sets.{has, pack, touching, touches, marked, present}
 use Rattle.purge.proofs.Sets.{has-or, has-pack}
 
@@ -36,7 +37,7 @@ marked-same A keep keep′ h [] hr = refl
 marked-same A keep keep′ h (a ∷ r) hr = rw (h a r (hr .0) (hr .1), marked-same A keep keep′ h r (hr .1))
 
 -- no action is 255
-pub present-marked : (keep : ℕ → List ℕ → Bool) (actions : ℕ) → actions ≤ 32 → (r : List ℕ) → All (λ a. a < actions) r →
+pub present-marked : (keep : ℕ → List ℕ → Bool) (actions : ℕ) → actions ≤ ACTIONS → (r : List ℕ) → All (λ a. a < actions) r →
     present (marked keep r) ≡ purge keep r
 unfolding marked present purge choose
 present-marked keep actions l [] hr = refl
@@ -46,13 +47,13 @@ present-marked keep actions l (a ∷ r) hr =
     (λ e. rw (e, ne-eqb a 255 (λ q. omega arith)) (ap (λ l. a ∷ l) (present-marked keep actions l r (hr .1))))
     (λ e. rw e (present-marked keep actions l r (hr .1)))
 
-module _ (owners : List ℕ) (interferes : Policy) (actions u : ℕ) (target : ℕ) (small : actions ≤ 32)
-    (owned : (a : ℕ) → a < actions → getD owners a 0 < 16) (aimed : target ≡ pack (λ v. interferes v u) 0 16) where
+module _ (owners : List ℕ) (interferes : Policy) (actions u : ℕ) (target : ℕ) (small : actions ≤ ACTIONS)
+    (owned : (a : ℕ) → a < actions → getD owners a 0 < BOXES) (aimed : target ≡ pack (λ v. interferes v u) 0 BOXES) where
   abbrev owner : ℕ → ℕ
   owner a = getD owners a 0
 
-  target-has : (v : ℕ) → v < 16 → has target v ≡ interferes v u
-  target-has v l = ap (λ t. has t v) aimed ∙ has-pack (λ v. interferes v u) 16 0 v l ∙ ap (λ k. interferes k u) (omega arith)
+  target-has : (v : ℕ) → v < BOXES → has target v ≡ interferes v u
+  target-has v l = ap (λ t. has t v) aimed ∙ has-pack (λ v. interferes v u) BOXES 0 v l ∙ ap (λ k. interferes k u) (omega arith)
 
   -- ---- plain: no set is added
   module _ (into : List ℕ) (none : (w : ℕ) → getD into w 0 ≡ 0) where
@@ -71,12 +72,12 @@ module _ (owners : List ℕ) (interferes : Policy) (actions u : ℕ) (target : �
         ∙ present-marked (keeps plain owner interferes u) actions small r hr
 
   -- ---- intransitive: a source adds the boxes that interfere with it
-  module _ (into : List ℕ) (sets : (w : ℕ) → w < 16 → getD into w 0 ≡ pack (λ v. interferes v w) 0 16)
+  module _ (into : List ℕ) (sets : (w : ℕ) → w < BOXES → getD into w 0 ≡ pack (λ v. interferes v w) 0 BOXES)
       (self : (a : ℕ) → a < actions → interferes (owner a) (owner a) ≡ true) where
-    into-has : (w v : ℕ) → w < 16 → v < 16 → has (getD into w 0) v ≡ interferes v w
-    into-has w v lw lv = ap (λ t. has t v) (sets w lw) ∙ has-pack (λ v. interferes v w) 16 0 v lv ∙ ap (λ k. interferes k w) (omega arith)
+    into-has : (w v : ℕ) → w < BOXES → v < BOXES → has (getD into w 0) v ≡ interferes v w
+    into-has w v lw lv = ap (λ t. has t v) (sets w lw) ∙ has-pack (λ v. interferes v w) BOXES 0 v lv ∙ ap (λ k. interferes k w) (omega arith)
 
-    touching-sources : (r : List ℕ) → All (λ a. a < actions) r → (v : ℕ) → v < 16 →
+    touching-sources : (r : List ℕ) → All (λ a. a < actions) r → (v : ℕ) → v < BOXES →
         has (touching owners into target r) v ≡ any (interferes v) (sources owner interferes u r)
     unfolding touching sources any choose
     touching-sources [] hr v l = target-has v l ∙ either-none (interferes v u)

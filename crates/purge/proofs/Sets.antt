@@ -10,6 +10,7 @@ use lib.Pow.{pow-mono}
 use lib.Dec.{eqb}
 use Rattle.laws.specs.Choice.{either}
 use Rattle.laws.proofs.Tests.{by-test}
+use Rattle.model.specs.Limits.{BOXES}
 use Rattle.purge.specs.Sets.{has, pack}
 
 -- nothing stands beyond the bits that there are
@@ -75,16 +76,16 @@ pack-small test (suc n) v =
     by-test (test v) (λ e. rw e (omega (arith, pow-suc 2 n))) (λ e. rw e (omega (arith, pow-suc 2 n)))
 
 -- ---- a loop that packs from the highest number down
-pub pack-fits : (test : ℕ → Bool) (n v : ℕ) {set : ℕ} → n ≤ 16 → set ≡ pack test v n → set < 65536
+pub pack-fits : (test : ℕ → Bool) (n v : ℕ) {set : ℕ} → n ≤ BOXES → set ≡ pack test v n → set < 65536
 pack-fits test n v l e = subst (λ x. x < 65536) (sym e) (lt-of-lt-of-le (pack-small test n v) (pow-mono l))
 
-pub pack-more : (test : ℕ → Bool) (v : ℕ) {set b : ℕ} → 0 < v → v ≤ 16 → set ≡ pack test v (16 - v) → b ≡ cond (test (v - 1)) 1 0 →
-    set * 2 + b ≡ pack test (v - 1) (16 - (v - 1))
+pub pack-more : (test : ℕ → Bool) (v : ℕ) {set b : ℕ} → 0 < v → v ≤ BOXES → set ≡ pack test v (BOXES - v) → b ≡ cond (test (v - 1)) 1 0 →
+    set * 2 + b ≡ pack test (v - 1) (BOXES - (v - 1))
 unfolding pack
 pack-more test v {set} {b} l m e h =
-    let n : 16 - (v - 1) ≡ suc (16 - v) = omega arith in
+    let n : BOXES - (v - 1) ≡ suc (BOXES - v) = omega arith in
     let w : v - 1 + 1 ≡ v = omega arith in
     rw (n, w, ← e, ← h)
 
-pub pack-end : (test : ℕ → Bool) (v : ℕ) {set : ℕ} → v ≤ 0 → set ≡ pack test v (16 - v) → set ≡ pack test 0 16
-pack-end test v {set} l e = let z : v ≡ 0 = omega arith in subst (λ k. set ≡ pack test k (16 - k)) z e
+pub pack-end : (test : ℕ → Bool) (v : ℕ) {set : ℕ} → v ≤ 0 → set ≡ pack test v (BOXES - v) → set ≡ pack test 0 BOXES
+pack-end test v {set} l e = let z : v ≡ 0 = omega arith in subst (λ k. set ≡ pack test k (BOXES - k)) z e

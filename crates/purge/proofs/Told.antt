@@ -8,6 +8,7 @@ use native.Mathlib.Omega.{arith}
 use lib.ListN.{getD, replicate}
 use types.Run.{OneOf}
 use denote.Enum.Declared.{tagOf}
+use Rattle.model.specs.Limits.{BOXES}
 use Rattle.purge.specs.Sets.{pack}
 use Rattle.purge.specs.Purged.{Added}
 use Rattle.purge.specs.declared.Kind.{Kind}
@@ -19,11 +20,11 @@ no-sets zero w = refl
 no-sets (suc n) zero = refl
 no-sets (suc n) (suc w) = no-sets n w
 
-pub added-plain : (k : Kind) (arrows : List Bool) → OneOf (0 ∷ []) (tagOf kinds.the-type k) → Added k arrows (replicate 16 0)
-added-plain Plain arrows e = no-sets 16
+pub added-plain : (k : Kind) (arrows : List Bool) → OneOf (0 ∷ []) (tagOf kinds.the-type k) → Added k arrows (replicate BOXES 0)
+added-plain Plain arrows e = no-sets BOXES
 added-plain Intransitive arrows e = absurd (omega arith)
 
 pub added-intransitive : (k : Kind) (arrows : List Bool) (sets : List ℕ) → OneOf (1 ∷ []) (tagOf kinds.the-type k) →
-    ((w : ℕ) → w < 16 → getD sets w 0 ≡ pack (λ v. getD arrows (v * 16 + w) false) 0 16) → Added k arrows sets
+    ((w : ℕ) → w < BOXES → getD sets w 0 ≡ pack (λ v. getD arrows (v * BOXES + w) false) 0 BOXES) → Added k arrows sets
 added-intransitive Plain arrows sets e h = absurd (omega arith)
 added-intransitive Intransitive arrows sets e h = h

@@ -9,6 +9,7 @@ use lib.ListN.{length, getD, replicate}
 use borrow.Author.Tests.{ltb-true}
 use Rattle.laws.specs.Lists.{All}
 use Rattle.laws.proofs.Range.{every-at}
+use Rattle.model.specs.Limits.{BOXES}
 use Rattle.model.specs.Denoted.{policyOf, ownerAt}
 use Rattle.model.specs.Good.{GoodMachine, GoodDrawing}
 use Rattle.model.specs.declared.Model.{Model}
@@ -33,15 +34,15 @@ pub named-run : (actions : ℕ) (run : List ℕ) → namesActions actions run �
 unfolding namesActions
 named-run actions run e = all-of (λ a. a < actions) run (λ i l. ltb-true _ _ (every-at (length run) _ e i l))
 
-pub box-small : (m : Model) (position : ℕ) (run : List ℕ) → Askable m position run → position < 16
+pub box-small : (m : Model) (position : ℕ) (run : List ℕ) → Askable m position run → position < BOXES
 box-small m position run h = let p = h .position-in in let g = model-good m .0 (h .good) .0 .boxes-most in omega arith
 
 module _ (m : Model) (position : ℕ) (run into : List ℕ) (target : ℕ) (h : Askable m position run)
-    (aimed : target ≡ pack (λ v. getD (m .arrows) (v * 16 + position) false) 0 16) where
+    (aimed : target ≡ pack (λ v. getD (m .arrows) (v * BOXES + position) false) 0 BOXES) where
   good : GoodMachine (m .machine) × GoodDrawing m
   good = model-good m .0 (h .good)
 
-  owner-small : (a : ℕ) → a < m .machine .actions → ownerAt (m .machine) a < 16
+  owner-small : (a : ℕ) → a < m .machine .actions → ownerAt (m .machine) a < BOXES
   owner-small a l = let p = good .0 .owner-in a l in let q = good .0 .boxes-most in omega arith
 
   kept-is : (kind : Kind) → Added kind (m .arrows) into →

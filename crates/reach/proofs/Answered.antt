@@ -51,15 +51,15 @@ module _ (m : Machine) (next : List ℕ) where
   unfolding outcomeOf choose
   outcome-found e f = rw (eq-eqb _ _ e, f)
 
-  flags-empty : both (eqb (length next) NEXT-ENTRIES) (machineTableFits m next) ≡ false → replicate 128 false ≡ flagsOf m next
+  flags-empty : both (eqb (length next) NEXT-ENTRIES) (machineTableFits m next) ≡ false → replicate STATES false ≡ flagsOf m next
   unfolding flagsOf both
-  flags-empty e = tabulated false STATES _ (replicate 128 false) refl (λ i l. rw e (getD-replicate {A = Bool} 128 i false false l))
+  flags-empty e = tabulated false STATES _ (replicate STATES false) refl (λ i l. rw e (getD-replicate {A = Bool} STATES i false false l))
 
-  pub flags-length : (length next ≡ NEXT-ENTRIES → ⊥) → replicate 128 false ≡ flagsOf m next
+  pub flags-length : (length next ≡ NEXT-ENTRIES → ⊥) → replicate STATES false ≡ flagsOf m next
   unfolding both
   flags-length n = flags-empty (rw (ne-eqb _ _ n))
 
-  pub flags-rules : machineTableFits m next ≡ false → replicate 128 false ≡ flagsOf m next
+  pub flags-rules : machineTableFits m next ≡ false → replicate STATES false ≡ flagsOf m next
   flags-rules f = flags-empty (both-no _ f)
 
   pub flags-found : {flags : List Bool} → length next ≡ NEXT-ENTRIES → machineTableFits m next ≡ true → Complete m next flags → flags ≡ flagsOf m next

@@ -17,7 +17,7 @@ use Rattle.laws.proofs.Tests.{by-test, not-both}
 use Rattle.laws.proofs.Count.{count-le, count-less, count-same}
 use Rattle.noninterference.specs.Machine.{Reachable, Closed}
 use Rattle.noninterference.proofs.Runs.{reachable-closed, reachable-in}
-use Rattle.model.specs.Limits.{STATES, ACTIONS}
+use Rattle.model.specs.Limits.{STATES, ACTIONS, NEXT-ENTRIES}
 use Rattle.model.specs.Denoted.{nextAt}
 use Rattle.model.specs.Good.{GoodTable}
 use Rattle.model.specs.declared.Machine.{Machine}
@@ -38,7 +38,7 @@ one-of a b true e = inl (eqb-true a b e)
 one-of a b false e = inr (eqb-false a b e)
 
 module _ {m : Machine} {next : List ℕ} (g : GoodTable m next) where
-  most : m .states ≤ 128
+  most : m .states ≤ STATES
   most = g .machine .states-most
 
   module _ {flags : List Bool} {work : List ℕ} {done n : ℕ} (w : Explored m next flags work done n) where
@@ -55,10 +55,10 @@ module _ {m : Machine} {next : List ℕ} (g : GoodTable m next) where
     pub looking-small : s < m .states
     looking-small = rw (w .is) (place-small (w .so-far) done (w .below))
 
-    pub next-cell : a < m .actions → s * m .actions + a < 4096
+    pub next-cell : a < m .actions → s * m .actions + a < NEXT-ENTRIES
     next-cell l = cell STATES ACTIONS looking-small (g .machine .states-most) l (g .machine .actions-most)
 
-    pub next-row : s * m .actions ≤ 4096
+    pub next-row : s * m .actions ≤ NEXT-ENTRIES
     next-row = row STATES ACTIONS looking-small (g .machine .states-most) (g .machine .actions-most)
 
     module _ {t : ℕ} (l : a < m .actions) (e : t ≡ nextAt m next s a) where
@@ -165,32 +165,32 @@ module _ {m : Machine} {next : List ℕ} (g : GoodTable m next) where
       }
 
   -- only the start is entered
-  pub explored-start : Explored m next (set (replicate 128 false) (m .start) true) (set (replicate 128 0) 0 (m .start)) 0 1
+  pub explored-start : Explored m next (set (replicate STATES false) (m .start) true) (set (replicate STATES 0) 0 (m .start)) 0 1
   explored-start = record {
-    flags-long = length-set (replicate 128 false) (m .start) true ∙ length-replicate {A = Bool} 128 false;
+    flags-long = length-set (replicate STATES false) (m .start) true ∙ length-replicate {A = Bool} STATES false;
     work-long = refl;
-    number = count-set (replicate 128 false) (m .start) fits (empty (m .start)) (m .states) (g .machine .start-in)
-        ∙ ap (λ x. x + 1) (count-same (m .states) (flagAt (replicate 128 false)) (λ _. false) (λ i _. empty i) ∙ count-none (m .states));
-    begun = set-true (replicate 128 false) (m .start) fits;
+    number = count-set (replicate STATES false) (m .start) fits (empty (m .start)) (m .states) (g .machine .start-in)
+        ∙ ap (λ x. x + 1) (count-same (m .states) (flagAt (replicate STATES false)) (λ _. false) (λ i _. empty i) ∙ count-none (m .states));
+    begun = set-true (replicate STATES false) (m .start) fits;
     small = λ s q. rw (only s q) (g .machine .start-in);
     right = λ s q. subst (Reachable (moving m next)) (sym (only s q)) (reachable-closed (moving m next) .first);
     flagged = λ i l. let z : i ≡ 0 = omega arith in
-        subst (λ x. flagAt (set (replicate 128 false) (m .start) true) (getD (set (replicate 128 0) 0 (m .start)) x 0) ≡ true) (sym z)
-        (set-true (replicate 128 false) (m .start) fits);
+        subst (λ x. flagAt (set (replicate STATES false) (m .start) true) (getD (set (replicate STATES 0) 0 (m .start)) x 0) ≡ true) (sym z)
+        (set-true (replicate STATES false) (m .start) fits);
     place = λ s q. record { at = 0; below = omega arith; is = sym (only s q) };
     looked = λ i a l. absurd (not-suc-le-zero l);
   }
     where
-      fits : m .start < length (replicate {A = Bool} 128 false)
-      fits = rw (length-replicate {A = Bool} 128 false) (le-trans (g .machine .start-in) most)
+      fits : m .start < length (replicate {A = Bool} STATES false)
+      fits = rw (length-replicate {A = Bool} STATES false) (le-trans (g .machine .start-in) most)
 
-      empty : (s : ℕ) → flagAt (replicate 128 false) s ≡ false
-      empty s = by-test (ltb s 128)
-          (λ q. getD-replicate {A = Bool} 128 s false false (ltb-true s 128 q))
-          (λ q. List·getD-eq-default (replicate 128 false) false {n = s} (rw (length-replicate {A = Bool} 128 false) (ltb-false s 128 q)))
+      empty : (s : ℕ) → flagAt (replicate STATES false) s ≡ false
+      empty s = by-test (ltb s STATES)
+          (λ q. getD-replicate {A = Bool} STATES s false false (ltb-true s STATES q))
+          (λ q. List·getD-eq-default (replicate STATES false) false {n = s} (rw (length-replicate {A = Bool} STATES false) (ltb-false s STATES q)))
 
-      only : (s : ℕ) → flagAt (set (replicate 128 false) (m .start) true) s ≡ true → s ≡ m .start
+      only : (s : ℕ) → flagAt (set (replicate STATES false) (m .start) true) s ≡ true → s ≡ m .start
       only s q =
           ⊎-elim (λ (z : s ≡ m .start). z)
-          (λ (z : s ≢ m .start). not-both (sym (getD-set-other (replicate 128 false) (m .start) s true false z) ∙ q) (empty s))
+          (λ (z : s ≢ m .start). not-both (sym (getD-set-other (replicate STATES false) (m .start) s true false z) ∙ q) (empty s))
           (one-of s (m .start) (eqb s (m .start)) refl)

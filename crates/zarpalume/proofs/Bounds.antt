@@ -17,6 +17,7 @@ use Rattle.laws.proofs.Tables.{zero-at}
 use Rattle.noninterference.specs.Place.{Place, output, respect, step}
 use Rattle.noninterference.specs.Reached.{reached}
 use Rattle.noninterference.specs.Rounds.{neededList}
+use Rattle.model.specs.Limits.{BOXES, STATES}
 use Rattle.model.specs.Denoted.{machineOf}
 use Rattle.model.specs.Good.{GoodTable}
 use Rattle.model.specs.Refused.{modelTableFits, machineTableFits}
@@ -60,7 +61,7 @@ module _ (m : Model) (next outputs views : List ℕ) where
 
 -- ---- the needed-arrow call's answer
 refused-few : (number : ℕ) → Few (refusedWith number)
-refused-few number = record { pairs-few = omega arith; reach-small = omega arith; depth-small = λ u. let z = zero-at 16 u in omega arith }
+refused-few number = record { pairs-few = omega arith; reach-small = omega arith; depth-small = λ u. let z = zero-at BOXES u in omega arith }
 
 module _ (m : Machine) (next outputs list : List ℕ) where
   found-few : lengthsFit next outputs list ≡ true → machineTableFits m next ≡ true → Few (foundIn (machineOf m next outputs))
@@ -75,7 +76,7 @@ module _ (m : Machine) (next outputs list : List ℕ) where
       record { pairs-few = omega arith; reach-small = omega arith; depth-small = λ u. depth d c s u (decLt u (m .boxes)) }
     where
       depth : Demand (machineOf m next outputs) (length (neededList (machineOf m next outputs))) (count (m .states) (reached (machineOf m next outputs))) (depthsOf (machineOf m next outputs)) (listOf m next outputs list) →
-          count (m .states) (reached (machineOf m next outputs)) ≤ m .states → m .states ≤ 128 → (u : ℕ) → Dec (u < m .boxes) →
+          count (m .states) (reached (machineOf m next outputs)) ≤ m .states → m .states ≤ STATES → (u : ℕ) → Dec (u < m .boxes) →
           getD (depthsOf (machineOf m next outputs)) u 0 < 65536
       depth d c s u (yes l) = let h = d .below-reach u l in omega arith
       depth d c s u (no l) = let h = d .beyond u (omega arith) in omega arith

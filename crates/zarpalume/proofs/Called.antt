@@ -12,7 +12,7 @@ use types.Run.{OneOf}
 use denote.Enum.Declared.{tagOf}
 use Rattle.laws.proofs.Tables.{drop-zeros}
 use Rattle.laws.proofs.Tests.{choose-no, choose-yes}
-use Rattle.model.specs.Limits.{NEXT-ENTRIES, OUTPUT-ENTRIES, VIEW-ENTRIES, VERDICT-BYTES}
+use Rattle.model.specs.Limits.{NEXT-ENTRIES, OUTPUT-ENTRIES, VIEW-ENTRIES, VERDICT-BYTES, BOXES}
 use Rattle.model.specs.Made.{machineFrom, modelFrom}
 use Rattle.model.specs.declared.Machine.{Machine}
 use Rattle.model.specs.declared.Model.{Model}
@@ -46,8 +46,8 @@ call-bad sheet buffer h = choose-no _ h refl
 
 -- ---- the model m that the code makes, of the machine k
 pub few-boxes : {m : Model} {k : Machine} {states actions boxes start : ℕ} {owners ids : List ℕ} {arrows : List Bool} →
-    m ≡ modelFrom k ids arrows → k ≡ machineFrom states actions boxes start owners → boxes ≤ 16 → m .machine .boxes ≤ 16
-few-boxes hm hk h = subst (λ (m : Model). m .machine .boxes ≤ 16) (sym hm) (subst (λ (k : Machine). k .boxes ≤ 16) (sym hk) h)
+    m ≡ modelFrom k ids arrows → k ≡ machineFrom states actions boxes start owners → boxes ≤ BOXES → m .machine .boxes ≤ BOXES
+few-boxes hm hk h = subst (λ (m : Model). m .machine .boxes ≤ BOXES) (sym hm) (subst (λ (k : Machine). k .boxes ≤ BOXES) (sym hk) h)
 
 pub verdict-on : (next outputs views : List ℕ) {m : Model} {k k′ : Machine} {ids v : List ℕ} {arrows : List Bool} →
     m ≡ modelFrom k ids arrows → k ≡ k′ → verdictOf (modelFrom k′ ids arrows) next outputs views ≡ v → verdictOf m next outputs views ≡ v
@@ -84,7 +84,7 @@ module _ (t next₀ outputs₀ views₀ : List ℕ) (s : Sheet) (next outputs vi
   unfolding verdict
   model-said e = ap said (sym (ap (λ a. readingOf a p) e) ∙ as-read)
 
-  pub boxes-most : {states actions boxes start : ℕ} → s .answer ≡ answers.Model states actions boxes start → boxes ≤ 16
+  pub boxes-most : {states actions boxes start : ℕ} → s .answer ≡ answers.Model states actions boxes start → boxes ≤ BOXES
   boxes-most e =
       let f = read-fits t (sym as-read ∙ ap (λ a. readingOf a p) e) in
       model-table-good _ _ .0 (f .0) .0 .machine .boxes-most

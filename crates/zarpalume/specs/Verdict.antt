@@ -8,6 +8,7 @@ use Rattle.model.specs.Limits.{LIST-ENTRIES, VERDICT-BYTES}
 use Rattle.model.specs.declared.Model.{Model}
 use Rattle.views.specs.Judgement.{judgementOf}
 use Rattle.needs.specs.Answered.{neededOf, listOf}
+use Rattle.needs.specs.Listed.{PAIRS}
 use Rattle.needs.specs.declared.Needs.{Needs}
 use Rattle.needs.specs.declared.Outcome.{Outcome}
 use Rattle.needs.specs.declared.Outcome.the-variants.{Found, Refused}
@@ -30,7 +31,7 @@ reached (Refused number line) = 0
 
 -- few enough pairs, and numbers that fit the 32 bits that are written
 pub record Few (n : Needs) : Type 0 where
-  pub pairs-few : pairs (n .outcome) ≤ 240
+  pub pairs-few : pairs (n .outcome) ≤ PAIRS
   pub reach-small : reached (n .outcome) < 65536
   pub depth-small : (u : ℕ) → getD (n .depths) u 0 < 65536
 

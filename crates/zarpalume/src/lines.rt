@@ -6,6 +6,7 @@ ghost use lib.ListN.{length, getD};
 ghost use Rattle.text.specs.Number.{decimal};
 ghost use Rattle.model.specs.Limits.{BOXES};
 ghost use Rattle.text.specs.Written.{Written};
+ghost use Rattle.needs.specs.Listed.{PAIRS};
 ghost use Rattle.zarpalume.specs.Lines.{tabbed, ended, brokenRespect, dashed, viewsLine, Small, needLines, depthLines, reachWords};
 
 // Bytes that have room.
@@ -122,8 +123,8 @@ pub(crate) fn put_needs(
     list: &[u16; model::LIST_ENTRIES],
     count: usize,
 ) -> usize
-    requires { ⌜ (count ≤ 240) × (27 * 240 ≤ length (now tail)) ⌝ }
-    ensures { λ r. ⌜ Written (now (tail .entry)) (now (tail .exit)) r (needLines (now (ids .entry)) (now (list .entry)) count) × (r ≤ 27 * 240) ⌝ }
+    requires { ⌜ (count ≤ PAIRS) × (27 * PAIRS ≤ length (now tail)) ⌝ }
+    ensures { λ r. ⌜ Written (now (tail .entry)) (now (tail .exit)) r (needLines (now (ids .entry)) (now (list .entry)) count) × (r ≤ 27 * PAIRS) ⌝ }
 {
     let mut at = 0;
     'pairs: for k in 0..count {

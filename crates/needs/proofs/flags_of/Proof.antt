@@ -23,18 +23,12 @@ states-holds c = (omega arith, copied-none refl)
 contains-requires : tie.Need-contains-requires Inv-states μ-states
 contains-requires c κs = tt
 
-add-s : tie.Need-add-s Inv-states μ-states
-add-s c = omega arith
-
-states-less : tie.Need-states-less Inv-states μ-states
-states-less c = omega arith
-
 states-again : tie.Need-states-again Inv-states μ-states
 states-again c = (omega arith, copied-more (c .before .before .states .inv .1) (c .before .states-test .taken) (c .contains .ensures))
 
 returns : tie.Need-returns Inv-states μ-states
 returns c =
-    let h : length (listed (c .before .before .args .reached)) ≡ 128 = search needs in
+    let h : length (listed (c .before .before .args .reached)) ≡ STATES = search needs in
     copied-all (c .before .states .inv .1) (c .states-test .left) h
 
 pub flags-of-spec : {M : Type 1} → statement M
@@ -46,7 +40,6 @@ flags-of-spec =
     states-holds
     contains-requires
     (λ c. search needs)
-    add-s
-    states-less
+    (λ c. omega arith) (λ c. omega arith)
     states-again
     returns)

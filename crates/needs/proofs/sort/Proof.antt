@@ -43,9 +43,6 @@ mark-requires c κs =
 add-u : tie.Need-add-u Inv-boxes μ-boxes
 add-u c = let i = c .before .before .before .before .before .before .before .before .before .before .before .boxes .inv in omega (arith, box-small (i .4))
 
-boxes-less : tie.Need-boxes-less Inv-boxes μ-boxes
-boxes-less c = omega arith
-
 boxes-again : tie.Need-boxes-again Inv-boxes μ-boxes
 boxes-again c =
     let i = c .before .before .before .before .before .before .before .before .before .before .before .boxes .inv in
@@ -54,9 +51,6 @@ boxes-again c =
 
 add-u-2 : tie.Need-add-u-2 Inv-boxes μ-boxes
 add-u-2 c = let i = c .before .before .before .before .boxes .inv in omega (arith, box-small (i .4))
-
-boxes-less-2 : tie.Need-boxes-less-2 Inv-boxes μ-boxes
-boxes-less-2 c = omega arith
 
 boxes-again-2 : tie.Need-boxes-again-2 Inv-boxes μ-boxes
 boxes-again-2 c =
@@ -80,9 +74,9 @@ sort-spec =
     array-write-depths
     mark-requires
     add-u
-    boxes-less
+    (λ c. omega arith)
     boxes-again
     add-u-2
-    boxes-less-2
+    (λ c. omega arith)
     boxes-again-2
     returns)

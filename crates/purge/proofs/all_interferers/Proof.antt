@@ -7,16 +7,17 @@ use lib.ListN.{length, getD, length-set}
 use borrow.Author.Needs.{needs}
 use Rattle.laws.specs.Filled.{Filled}
 use Rattle.laws.proofs.Filled.{filled-none, filled-more, filled-all}
+use Rattle.model.specs.Limits.{BOXES}
 use Rattle.purge.specs.Sets.{pack}
 use Rattle.purge.proofs.all_interferers.Statement.{statement}
 use Rattle.purge.proofs.all_interferers.Tie as tie
 
 abbrev Inv-boxes : tie.InvT-boxes
 Inv-boxes arrows sets₀ u₀ sets u =
-    (u ≤ 16) × (length sets ≡ 16) × Filled (λ w. pack (λ v. getD arrows (v * 16 + w) false) 0 16) u sets
+    (u ≤ BOXES) × (length sets ≡ BOXES) × Filled (λ w. pack (λ v. getD arrows (v * BOXES + w) false) 0 BOXES) u sets
 
 abbrev μ-boxes : tie.MeasureT-boxes
-μ-boxes arrows sets₀ u₀ sets u = 16 - u
+μ-boxes arrows sets₀ u₀ sets u = BOXES - u
 
 boxes-holds : tie.Need-boxes-holds Inv-boxes μ-boxes
 boxes-holds c = (omega arith, refl, filled-none _ _)
@@ -27,7 +28,7 @@ boxes-again c =
     (omega arith, rw length-set (b .inv .1), filled-more _ _ _ _ (b .inv .2) (omega arith) (c .interferers .ensures))
 
 returns : tie.Need-returns Inv-boxes μ-boxes
-returns c = filled-all _ 16 _ _ (c .before .boxes .inv .2) (omega arith)
+returns c = filled-all _ BOXES _ _ (c .before .boxes .inv .2) (omega arith)
 
 pub all-interferers-spec : {M : Type 1} → statement M
 all-interferers-spec =

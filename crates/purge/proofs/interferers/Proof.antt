@@ -5,13 +5,14 @@ use Prim.Native.Nat.{_+_, _-_, _*_, _≤_}
 use native.Mathlib.Omega.{arith}
 use lib.ListN.{getD}
 use borrow.Author.Needs.{needs}
+use Rattle.model.specs.Limits.{BOXES}
 use Rattle.purge.specs.Sets.{pack}
 use Rattle.purge.proofs.Sets.{pack-fits, pack-more, pack-end}
 use Rattle.purge.proofs.interferers.Statement.{statement}
 use Rattle.purge.proofs.interferers.Tie as tie
 
 abbrev Inv-boxes : tie.InvT-boxes
-Inv-boxes arrows u set₀ v₀ set v = (v ≤ 16) × (set ≡ pack (λ w. getD arrows (w * 16 + u) false) v (16 - v))
+Inv-boxes arrows u set₀ v₀ set v = (v ≤ BOXES) × (set ≡ pack (λ w. getD arrows (w * BOXES + u) false) v (BOXES - v))
 
 abbrev μ-boxes : tie.MeasureT-boxes
 μ-boxes arrows u set₀ v₀ set v = v

@@ -3,6 +3,7 @@ use mathlib.Core.Path.{_≡_}
 use mathlib.Core.Bool.{false}
 use native.Mathlib.Omega.{arith}
 use lib.ListN.{length}
+use Rattle.model.specs.Limits.{STATES}
 use Rattle.reach.specs.Set.{listed}
 use borrow.Author.Needs.{needs}
 use Rattle.laws.proofs.Cells.{beyond}
@@ -11,7 +12,7 @@ use Rattle.reach.proofs.contains.Tie as tie
 
 returns-2 : tie.Need-returns-2
 returns-2 c =
-    let h : length (listed (c .before .args .t1)) ≡ 128 = search needs in
+    let h : length (listed (c .before .args .t1)) ≡ STATES = search needs in
     beyond (listed (c .before .args .t1)) _ false (omega arith)
 
 pub contains-spec : {M : Type 1} → statement M

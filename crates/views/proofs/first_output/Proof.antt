@@ -42,12 +42,6 @@ quiet-requires c κs =
     let l = c2 .actions-test .taken in
     (c7 .pre .0, (lows-low (c7 .pre .1 .1) (owner-in g l (c .owner .ensures)), (g .states-most, g .actions-most, owner-small g l (c .owner .ensures), l)))
 
-add-a : tie.Need-add-a Inv-seconds μ-seconds Inv-firsts μ-firsts Inv-actions μ-actions
-add-a c = omega arith
-
-actions-less : tie.Need-actions-less Inv-seconds μ-seconds Inv-firsts μ-firsts Inv-actions μ-actions
-actions-less c = omega arith
-
 actions-again : tie.Need-actions-again Inv-seconds μ-seconds Inv-firsts μ-firsts Inv-actions μ-actions
 actions-again c =
     let c2 = c .before .before in
@@ -59,9 +53,6 @@ actions-again c =
       passed-more _ _ (c5 .actions .inv .2) (quiet-none _ (c9 .pre .1 .0) (c9 .pre .1 .1) (c4 .actions-test .taken)
           (c2 .owner .ensures) (told _ _ (c .before .quiet .ensures) (c .if1 .taken))),
     )
-
-add-t : tie.Need-add-t Inv-seconds μ-seconds Inv-firsts μ-firsts Inv-actions μ-actions
-add-t c = omega arith
 
 leaks-requires : tie.Need-leaks-requires Inv-seconds μ-seconds Inv-firsts μ-firsts Inv-actions μ-actions
 leaks-requires c κs =
@@ -79,12 +70,6 @@ leaks-requires c κs =
       c .seconds-test .taken,
     )
 
-add-t-2 : tie.Need-add-t-2 Inv-seconds μ-seconds Inv-firsts μ-firsts Inv-actions μ-actions
-add-t-2 c = omega arith
-
-seconds-less : tie.Need-seconds-less Inv-seconds μ-seconds Inv-firsts μ-firsts Inv-actions μ-actions
-seconds-less c = omega arith
-
 seconds-again : tie.Need-seconds-again Inv-seconds μ-seconds Inv-firsts μ-firsts Inv-actions μ-actions
 seconds-again c =
     let c3 = c .before .before .before in
@@ -95,18 +80,6 @@ seconds-again c =
       passed-more _ _ (c3 .seconds .inv .3) (when-rest _ (when-rest _ (when-no _ (told _ _ (rw
           (c8 .owner .ensures) at (c .before .leaks .ensures)) (c .if2 .left))))),
     )
-
-add-s : tie.Need-add-s Inv-seconds μ-seconds Inv-firsts μ-firsts Inv-actions μ-actions
-add-s c = omega arith
-
-firsts-less : tie.Need-firsts-less Inv-seconds μ-seconds Inv-firsts μ-firsts Inv-actions μ-actions
-firsts-less c = omega arith
-
-add-a-2 : tie.Need-add-a-2 Inv-seconds μ-seconds Inv-firsts μ-firsts Inv-actions μ-actions
-add-a-2 c = omega arith
-
-actions-less-2 : tie.Need-actions-less-2 Inv-seconds μ-seconds Inv-firsts μ-firsts Inv-actions μ-actions
-actions-less-2 c = omega arith
 
 returns : tie.Need-returns Inv-seconds μ-seconds Inv-firsts μ-firsts Inv-actions μ-actions
 returns c =
@@ -141,23 +114,21 @@ first-output-spec =
     μ-firsts
     Inv-actions
     μ-actions
-    (λ c. search sweep) (λ c. search needs) (λ c κs. search needs)
+    (λ c. search sweep)
+    (λ c. search needs)
+    (λ c κs. search needs)
     quiet-requires
-    add-a
-    actions-less
+    (λ c. omega arith) (λ c. omega arith)
     actions-again
     (λ c. search sweep)
-    add-t
+    (λ c. omega arith)
     (λ c. search (sweep, pairs-passed))
     leaks-requires
-    add-t-2
-    seconds-less
+    (λ c. omega arith) (λ c. omega arith)
     seconds-again
-    add-s
-    firsts-less
+    (λ c. omega arith) (λ c. omega arith)
     (λ c. search (sweep, when-rest))
-    add-a-2
-    actions-less-2
+    (λ c. omega arith) (λ c. omega arith)
     (λ c. search sweep)
     returns
     returns-2)

@@ -63,12 +63,6 @@ add-arrow c =
     let l = g .boxes-most in
     omega arith
 
-add-a : tie.Need-add-a Inv-states μ-states Inv-actions μ-actions Inv-boxes μ-boxes
-add-a c = omega arith
-
-actions-less : tie.Need-actions-less Inv-states μ-states Inv-actions μ-actions Inv-boxes μ-boxes
-actions-less c = omega arith
-
 actions-again : tie.Need-actions-again Inv-states μ-states Inv-actions μ-actions Inv-boxes μ-boxes
 actions-again c =
     let c3 = c .before .before .before in
@@ -90,12 +84,6 @@ note-kept-requires c κs =
       c7 .actions .inv .3,
       (nexts (c15 .pre .0) g, (lt-of-lt-of-le (c8 .boxes-test .taken) (g .machine .boxes-most), c6 .actions-test .taken)),
     )
-
-add-a-2 : tie.Need-add-a-2 Inv-states μ-states Inv-actions μ-actions Inv-boxes μ-boxes
-add-a-2 c = omega arith
-
-actions-less-2 : tie.Need-actions-less-2 Inv-states μ-states Inv-actions μ-actions Inv-boxes μ-boxes
-actions-less-2 c = omega arith
 
 actions-again-2 : tie.Need-actions-again-2 Inv-states μ-states Inv-actions μ-actions Inv-boxes μ-boxes
 actions-again-2 c =
@@ -138,9 +126,6 @@ add-s c =
     let c21 = c .before .before .before .before .before .before .before .before .before .before .before .before .before .before .before .before .before .before .before .before .before in
     omega (arith, c21 .pre .1 .0 .machine .states-most)
 
-states-less : tie.Need-states-less Inv-states μ-states Inv-actions μ-actions Inv-boxes μ-boxes
-states-less c = omega arith
-
 states-again : tie.Need-states-again Inv-states μ-states Inv-actions μ-actions Inv-boxes μ-boxes
 states-again c =
     let c3 = c .before .before .before in (
@@ -149,12 +134,6 @@ states-again c =
       passed-more _ _ (c3 .states .inv .2) (when-rest _ (when-no _ (told _ _ (c .before .moves .ensures)
           (c .if3 .left)))),
     )
-
-add-a-3 : tie.Need-add-a-3 Inv-states μ-states Inv-actions μ-actions Inv-boxes μ-boxes
-add-a-3 c = omega arith
-
-actions-less-3 : tie.Need-actions-less-3 Inv-states μ-states Inv-actions μ-actions Inv-boxes μ-boxes
-actions-less-3 c = omega arith
 
 actions-again-3 : tie.Need-actions-again-3 Inv-states μ-states Inv-actions μ-actions Inv-boxes μ-boxes
 actions-again-3 c =
@@ -165,12 +144,6 @@ actions-again-3 c =
       passed-more _ _ (c11 .actions .inv .2) (when-rest _ (firstOf-none _ _ (c .states-test .left) (c .before .states .inv .2))),
       c3 .note-kept .ensures .0,
     )
-
-add-u : tie.Need-add-u Inv-states μ-states Inv-actions μ-actions Inv-boxes μ-boxes
-add-u c = omega arith
-
-boxes-less : tie.Need-boxes-less Inv-states μ-states Inv-actions μ-actions Inv-boxes μ-boxes
-boxes-less c = omega arith
 
 boxes-again : tie.Need-boxes-again Inv-states μ-states Inv-actions μ-actions Inv-boxes μ-boxes
 boxes-again c =
@@ -223,27 +196,25 @@ first-respect-spec =
     μ-boxes
     boxes-holds
     actions-holds
-    (λ c. search needs) (λ c κs. search needs) (λ c. search needs)
+    (λ c. search needs)
+    (λ c κs. search needs)
+    (λ c. search needs)
     mul-arrow
     add-arrow
     (λ c κs. search needs)
-    add-a
-    actions-less
+    (λ c. omega arith) (λ c. omega arith)
     actions-again
     note-kept-requires
-    add-a-2
-    actions-less-2
+    (λ c. omega arith) (λ c. omega arith)
     actions-again-2
     states-holds
     moves-requires
     add-s
-    states-less
+    (λ c. omega arith)
     states-again
-    add-a-3
-    actions-less-3
+    (λ c. omega arith) (λ c. omega arith)
     actions-again-3
-    add-u
-    boxes-less
+    (λ c. omega arith) (λ c. omega arith)
     boxes-again
     returns
     returns-2)

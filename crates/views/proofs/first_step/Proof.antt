@@ -51,12 +51,6 @@ is-alone-requires c κs =
     let c5 = c .before .before .before .before .before in
     lt-of-lt-of-le (c .boxes-test .taken) (c5 .pre .1 .0 .machine .boxes-most)
 
-add-u : tie.Need-add-u Inv-seconds μ-seconds Inv-firsts μ-firsts Inv-actions μ-actions Inv-boxes μ-boxes
-add-u c = omega arith
-
-boxes-less : tie.Need-boxes-less Inv-seconds μ-seconds Inv-firsts μ-firsts Inv-actions μ-actions Inv-boxes μ-boxes
-boxes-less c = omega arith
-
 boxes-again : tie.Need-boxes-again Inv-seconds μ-seconds Inv-firsts μ-firsts Inv-actions μ-actions Inv-boxes μ-boxes
 boxes-again c =
     let c2 = c .before .before in
@@ -105,12 +99,6 @@ settled-requires c κs =
       ),
     )
 
-add-a : tie.Need-add-a Inv-seconds μ-seconds Inv-firsts μ-firsts Inv-actions μ-actions Inv-boxes μ-boxes
-add-a c = omega arith
-
-actions-less : tie.Need-actions-less Inv-seconds μ-seconds Inv-firsts μ-firsts Inv-actions μ-actions Inv-boxes μ-boxes
-actions-less c = omega arith
-
 actions-again : tie.Need-actions-again Inv-seconds μ-seconds Inv-firsts μ-firsts Inv-actions μ-actions Inv-boxes μ-boxes
 actions-again c =
     let c3 = c .before .before .before in
@@ -124,9 +112,6 @@ actions-again c =
           (c5 .actions-test .taken) (c3 .owner .ensures) (c .before .settled .ensures .1 (c .if2 .taken))),
       c .before .settled .ensures .0,
     )
-
-add-t : tie.Need-add-t Inv-seconds μ-seconds Inv-firsts μ-firsts Inv-actions μ-actions Inv-boxes μ-boxes
-add-t c = omega arith
 
 tears-requires : tie.Need-tears-requires Inv-seconds μ-seconds Inv-firsts μ-firsts Inv-actions μ-actions Inv-boxes μ-boxes
 tears-requires c κs =
@@ -158,9 +143,6 @@ add-t-2 c =
     let c20 = c .before .before .before .before .before .before .before .before .before .before .before .before .before .before .before .before .before .before .before .before in
     omega (arith, c20 .pre .1 .0 .machine .states-most)
 
-seconds-less : tie.Need-seconds-less Inv-seconds μ-seconds Inv-firsts μ-firsts Inv-actions μ-actions Inv-boxes μ-boxes
-seconds-less c = omega arith
-
 seconds-again : tie.Need-seconds-again Inv-seconds μ-seconds Inv-firsts μ-firsts Inv-actions μ-actions Inv-boxes μ-boxes
 seconds-again c =
     let c3 = c .before .before .before in
@@ -172,18 +154,6 @@ seconds-again c =
           (c9 .owner .ensures) at (c .before .tears .ensures)) (c .if3 .left))))),
     )
 
-add-s : tie.Need-add-s Inv-seconds μ-seconds Inv-firsts μ-firsts Inv-actions μ-actions Inv-boxes μ-boxes
-add-s c = omega arith
-
-firsts-less : tie.Need-firsts-less Inv-seconds μ-seconds Inv-firsts μ-firsts Inv-actions μ-actions Inv-boxes μ-boxes
-firsts-less c = omega arith
-
-add-a-2 : tie.Need-add-a-2 Inv-seconds μ-seconds Inv-firsts μ-firsts Inv-actions μ-actions Inv-boxes μ-boxes
-add-a-2 c = omega arith
-
-actions-less-2 : tie.Need-actions-less-2 Inv-seconds μ-seconds Inv-firsts μ-firsts Inv-actions μ-actions Inv-boxes μ-boxes
-actions-less-2 c = omega arith
-
 actions-again-2 : tie.Need-actions-again-2 Inv-seconds μ-seconds Inv-firsts μ-firsts Inv-actions μ-actions Inv-boxes μ-boxes
 actions-again-2 c =
     let c3 = c .before .before .before in
@@ -194,12 +164,6 @@ actions-again-2 c =
           (c .before .firsts .inv .2)),
       c3 .settled .ensures .0,
     )
-
-add-u-2 : tie.Need-add-u-2 Inv-seconds μ-seconds Inv-firsts μ-firsts Inv-actions μ-actions Inv-boxes μ-boxes
-add-u-2 c = omega arith
-
-boxes-less-2 : tie.Need-boxes-less-2 Inv-seconds μ-seconds Inv-firsts μ-firsts Inv-actions μ-actions Inv-boxes μ-boxes
-boxes-less-2 c = omega arith
 
 boxes-again-2 : tie.Need-boxes-again-2 Inv-seconds μ-seconds Inv-firsts μ-firsts Inv-actions μ-actions Inv-boxes μ-boxes
 boxes-again-2 c =
@@ -250,30 +214,26 @@ first-step-spec =
     μ-boxes
     boxes-holds
     is-alone-requires
-    add-u
-    boxes-less
+    (λ c. omega arith) (λ c. omega arith)
     boxes-again
     actions-holds
-    (λ c. search needs) (λ c κs. search needs)
+    (λ c. search needs)
+    (λ c κs. search needs)
     settled-requires
-    add-a
-    actions-less
+    (λ c. omega arith) (λ c. omega arith)
     actions-again
     (λ c. search sweep)
-    add-t
+    (λ c. omega arith)
     (λ c. search (sweep, pairs-passed))
     tears-requires
     add-t-2
-    seconds-less
+    (λ c. omega arith)
     seconds-again
-    add-s
-    firsts-less
+    (λ c. omega arith) (λ c. omega arith)
     (λ c. search (sweep, when-rest))
-    add-a-2
-    actions-less-2
+    (λ c. omega arith) (λ c. omega arith)
     actions-again-2
-    add-u-2
-    boxes-less-2
+    (λ c. omega arith) (λ c. omega arith)
     boxes-again-2
     returns
     returns-2)

@@ -25,12 +25,6 @@ mul-list c = let i = c .before .entries .inv in omega (arith, filled-long _ (i .
 slice-write-list : tie.Need-slice-write-list Inv-entries μ-entries
 slice-write-list c = let i = c .before .entries .inv in omega (arith, filled-long _ (i .0) (i .1) (i .2))
 
-add-i : tie.Need-add-i Inv-entries μ-entries
-add-i c = omega arith
-
-entries-less : tie.Need-entries-less Inv-entries μ-entries
-entries-less c = omega arith
-
 entries-again : tie.Need-entries-again Inv-entries μ-entries
 entries-again c =
     let i = c .before .entries .inv in (i .0, omega arith, filled-more _ (i .0) (c .entries-test .taken) (i .2))
@@ -50,8 +44,7 @@ clear-spec =
     entries-holds
     mul-list
     slice-write-list
-    add-i
-    entries-less
+    (λ c. omega arith) (λ c. omega arith)
     entries-again
     same-length
     returns)

@@ -28,17 +28,11 @@ mark-state-requires c κs =
 add-s : tie.Need-add-s Inv-states μ-states
 add-s c = omega (arith, c .before .before .before .before .before .before .before .pre .0 .states-most)
 
-states-less : tie.Need-states-less Inv-states μ-states
-states-less c = omega arith
-
 states-again : tie.Need-states-again Inv-states μ-states
 states-again c = (omega arith, sources-more _ _ _ _ _ (c .before .before .before .before .before .states .inv .1) (c .before .before .if1 .taken) (c .mark-state .ensures))
 
 add-s-2 : tie.Need-add-s-2 Inv-states μ-states
 add-s-2 c = omega (arith, c .before .before .before .before .before .pre .0 .states-most)
-
-states-less-2 : tie.Need-states-less-2 Inv-states μ-states
-states-less-2 c = omega arith
 
 states-again-2 : tie.Need-states-again-2 Inv-states μ-states
 states-again-2 c = (omega arith, sources-skip _ _ _ _ _ (c .before .before .before .states .inv .1) (c .if1 .left))
@@ -56,9 +50,9 @@ mark-spec =
     element-copy-out-if1
     mark-state-requires
     add-s
-    states-less
+    (λ c. omega arith)
     states-again
     add-s-2
-    states-less-2
+    (λ c. omega arith)
     states-again-2
     returns)

@@ -3,6 +3,7 @@
 use borrow.Author.Needs.{needs}
 use native.Mathlib.Omega.{arith}
 use Prim.Native.Nat.{_≤_, _<_, _-_}
+use Rattle.model.specs.Limits.{BOXES}
 use Rattle.needs.specs.Tables.{stepIn, entry}
 use Rattle.needs.proofs.Marking.{MovedTo, moved-none, moved-keep, moved-put, moved-all}
 use Rattle.needs.proofs.arrows.mark_state.Statement.{statement}
@@ -26,9 +27,6 @@ element-copy-out-if1-2 c = let q = c .before .before .before .before .before .pr
 
 add-a : tie.Need-add-a Inv-actions μ-actions
 add-a c = omega (arith, c .before .before .before .before .before .before .before .pre .0 .actions-most)
-
-actions-less : tie.Need-actions-less Inv-actions μ-actions
-actions-less c = omega arith
 
 actions-again : tie.Need-actions-again Inv-actions μ-actions
 actions-again c =
@@ -55,13 +53,10 @@ element-write-table c =
 add-a-2 : tie.Need-add-a-2 Inv-actions μ-actions
 add-a-2 c = omega (arith, c .before .before .before .before .before .before .before .before .before .pre .0 .actions-most)
 
-actions-less-2 : tie.Need-actions-less-2 Inv-actions μ-actions
-actions-less-2 c = omega arith
-
 actions-again-2 : tie.Need-actions-again-2 Inv-actions μ-actions
 actions-again-2 c =
     let q = c .before .before .before .before .before .before .before .before .before .pre in
-    let o : c .owner .result < 16 = omega (arith, c .owner .ensures, q .1 .0 .owner-in _ (c .before .before .before .before .before .before .actions-test .taken)) in
+    let o : c .owner .result < BOXES = omega (arith, c .owner .ensures, q .1 .0 .owner-in _ (c .before .before .before .before .before .before .actions-test .taken)) in
     (omega arith, moved-put _ _ _ _ (c .before .before .before .before .before .before .before .actions .inv .1) (c .before .before .before .before .before .step .ensures .0) (c .before .before .if1 .left) (c .owner .ensures) o (q .1 .1 .0 .1))
 
 returns : tie.Need-returns Inv-actions μ-actions
@@ -78,13 +73,13 @@ mark-state-spec =
     element-copy-out-if1
     element-copy-out-if1-2
     add-a
-    actions-less
+    (λ c. omega arith)
     actions-again
     owner-requires
     mul-table
     add-table
     element-write-table
     add-a-2
-    actions-less-2
+    (λ c. omega arith)
     actions-again-2
     returns)

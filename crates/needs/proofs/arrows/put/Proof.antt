@@ -6,9 +6,6 @@ use lib.ListN.{length-set}
 use Rattle.needs.proofs.arrows.put.Statement.{statement}
 use Rattle.needs.proofs.arrows.put.Tie as tie
 
-add-list : tie.Need-add-list
-add-list c = omega arith
-
 slice-write-list-2 : tie.Need-slice-write-list-2
 slice-write-list-2 c = simp length-set (omega arith)
 
@@ -19,8 +16,13 @@ pub put-spec : {M : Type 1} → statement M
 put-spec =
     tie.close
     (tie.spec
-    (λ c κs. search needs) (λ c. search needs) (λ c. search needs) (λ c. search needs) (λ c κs. search needs) (λ c. search needs)
-    add-list
+    (λ c κs. search needs)
+    (λ c. search needs)
+    (λ c. search needs)
+    (λ c. search needs)
+    (λ c κs. search needs)
+    (λ c. search needs)
+    (λ c. omega arith)
     (λ c. search needs)
     slice-write-list-2
     (λ c. search needs)

@@ -12,9 +12,6 @@ returns : tie.Need-returns
 unfolding wantedIn both
 returns c = rw (eq-eqb _ _ (c .if1 .taken))
 
-add-result : tie.Need-add-result
-add-result c = omega arith
-
 returns-2 : tie.Need-returns-2
 unfolding wantedIn both
 returns-2 c = rw (ne-eqb _ _ (c .before .if1 .left))
@@ -23,6 +20,6 @@ pub wanted-spec : {M : Type 1} → statement M
 wanted-spec = tie.close (tie.spec
     returns
     (λ c. search needs)
-    add-result
+    (λ c. omega arith)
     (λ c. search needs)
     returns-2)

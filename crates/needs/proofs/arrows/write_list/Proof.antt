@@ -5,6 +5,7 @@ use mathlib.Core.Path.{sym, _∙_, ap}
 use Prim.Native.Nat.{ℕ, _≤_, _-_}
 use lib.ListN.{length, length-replicate}
 use Rattle.noninterference.specs.Rounds.{arrowsUpto}
+use Rattle.model.specs.Limits.{LIST-ENTRIES}
 use Rattle.needs.specs.Marks.{wantedIn}
 use Rattle.needs.specs.Listed.{Written}
 use Rattle.needs.proofs.Listing.{written-none, written-all}
@@ -23,17 +24,11 @@ sources-holds c = (omega arith, written-none _ _ (c .before .pre .1))
 write-row-requires : tie.Need-write-row-requires Inv-sources μ-sources
 write-row-requires c κs = ((c .before .before .before .before .pre .0, c .before .sources-test .taken), c .before .before .sources .inv .1)
 
-add-v : tie.Need-add-v Inv-sources μ-sources
-add-v c = omega arith
-
-sources-less : tie.Need-sources-less Inv-sources μ-sources
-sources-less c = omega arith
-
 sources-again : tie.Need-sources-again Inv-sources μ-sources
 sources-again c = (omega arith, c .before .before .write-row .ensures)
 
 same-length : tie.Need-same-length Inv-sources μ-sources
-same-length c = c .before .sources .inv .1 .long ∙ sym (ap length (c .before .before .before .pre .1) ∙ length-replicate {A = ℕ} 480 0)
+same-length c = c .before .sources .inv .1 .long ∙ sym (ap length (c .before .before .before .pre .1) ∙ length-replicate {A = ℕ} LIST-ENTRIES 0)
 
 returns : tie.Need-returns Inv-sources μ-sources
 returns c = written-all _ _ (c .before .sources .inv .1) (omega arith)
@@ -46,8 +41,7 @@ write-list-spec =
     μ-sources
     sources-holds
     write-row-requires
-    add-v
-    sources-less
+    (λ c. omega arith) (λ c. omega arith)
     sources-again
     same-length
     returns)

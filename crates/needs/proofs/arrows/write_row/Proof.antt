@@ -34,24 +34,12 @@ add-n c =
     let i = c .before .before .before .before .before .before .before .targets .inv in
     omega (arith, wanted-room _ (q .0 .0) (q .0 .1) (c .before .before .before .before .before .before .targets-test .taken) (sym (c .before .before .before .before .before .wanted .ensures) ∙ c .before .before .before .before .if1 .taken) (i .1))
 
-add-u : tie.Need-add-u Inv-targets μ-targets
-add-u c = omega arith
-
-targets-less : tie.Need-targets-less Inv-targets μ-targets
-targets-less c = omega arith
-
 targets-again : tie.Need-targets-again Inv-targets μ-targets
 targets-again c =
     let q = c .before .before .before .before .before .before .before .before .before .pre in
     let i = c .before .before .before .before .before .before .before .targets .inv in
     let t = sym (c .before .before .before .before .before .wanted .ensures) ∙ c .before .before .before .before .if1 .taken in
     (omega arith, row-more _ _ _ t (wanted-room _ (q .0 .0) (q .0 .1) (c .before .before .before .before .before .before .targets-test .taken) t (i .1)) (i .1) (c .before .before .put .ensures))
-
-add-u-2 : tie.Need-add-u-2 Inv-targets μ-targets
-add-u-2 c = omega arith
-
-targets-less-2 : tie.Need-targets-less-2 Inv-targets μ-targets
-targets-less-2 c = omega arith
 
 targets-again-2 : tie.Need-targets-again-2 Inv-targets μ-targets
 targets-again-2 c = (omega arith, row-skip _ _ _ (sym (c .before .wanted .ensures) ∙ c .if1 .left) (c .before .before .before .targets .inv .1))
@@ -72,11 +60,9 @@ write-row-spec =
     (λ c κs. search needs)
     put-requires
     add-n
-    add-u
-    targets-less
+    (λ c. omega arith) (λ c. omega arith)
     targets-again
-    add-u-2
-    targets-less-2
+    (λ c. omega arith) (λ c. omega arith)
     targets-again-2
     same-length
     returns)

@@ -39,9 +39,6 @@ array-write-before c = omega (arith, c .step .ensures .1, c .before .before .bef
 add-a : tie.Need-add-a Inv-actions μ-actions Inv-states μ-states
 add-a c = omega (arith, c .before .before .before .before .before .before .pre .actions-most)
 
-actions-less : tie.Need-actions-less Inv-actions μ-actions Inv-states μ-states
-actions-less c = omega arith
-
 actions-again : tie.Need-actions-again Inv-actions μ-actions Inv-states μ-states
 actions-again c =
     let m = c .before .before .before .before .before .before .pre .states-most in
@@ -49,9 +46,6 @@ actions-again c =
 
 add-s : tie.Need-add-s Inv-actions μ-actions Inv-states μ-states
 add-s c = omega (arith, c .before .before .before .before .before .pre .states-most)
-
-states-less : tie.Need-states-less Inv-actions μ-actions Inv-states μ-states
-states-less c = omega arith
 
 states-again : tie.Need-states-again Inv-actions μ-actions Inv-states μ-states
 states-again c = (omega arith, befores-row (c .before .actions .inv .1) (omega arith))
@@ -74,9 +68,9 @@ befores-spec =
     add-before
     array-write-before
     add-a
-    actions-less
+    (λ c. omega arith)
     actions-again
     add-s
-    states-less
+    (λ c. omega arith)
     states-again
     returns)

@@ -15,9 +15,6 @@ abbrev μ-states : tie.MeasureT-states
 sizes-requires : tie.Need-sizes-requires Inv-states μ-states
 sizes-requires c κs = (c .pre .0 .0, c .pre .1)
 
-states-holds : tie.Need-states-holds Inv-states μ-states
-states-holds c = omega arith
-
 element-copy-out-wide : tie.Need-element-copy-out-wide Inv-states μ-states
 element-copy-out-wide c = omega (arith, c .before .before .before .before .pre .0 .0)
 
@@ -39,12 +36,6 @@ array-read-if1-2 c = omega (arith, c .before .before .wide .ensures, c .before .
 add-s : tie.Need-add-s Inv-states μ-states
 add-s c = omega (arith, c .before .before .before .before .before .before .before .before .before .pre .0 .0)
 
-states-less : tie.Need-states-less Inv-states μ-states
-states-less c = omega arith
-
-states-again : tie.Need-states-again Inv-states μ-states
-states-again c = omega arith
-
 array-read-most : tie.Need-array-read-most Inv-states μ-states
 array-read-most c = omega (arith, c .before .wide2 .ensures, c .before .before .before .before .before .before .before .before .before .pre .1 .upto _ (c .before .before .before .before .before .states-test .taken), c .before .before .before .before .before .before .before .before .before .pre .0 .0)
 
@@ -60,12 +51,6 @@ array-write-keep c = omega (arith, c .before .before .before .before .wide .ensu
 add-s-2 : tie.Need-add-s-2 Inv-states μ-states
 add-s-2 c = omega (arith, c .before .before .before .before .before .before .before .before .before .before .pre .0 .0)
 
-states-less-2 : tie.Need-states-less-2 Inv-states μ-states
-states-less-2 c = omega arith
-
-states-again-2 : tie.Need-states-again-2 Inv-states μ-states
-states-again-2 c = omega arith
-
 pub largest-spec : {M : Type 1} → statement M
 largest-spec =
     tie.close
@@ -73,7 +58,7 @@ largest-spec =
     Inv-states
     μ-states
     sizes-requires
-    states-holds
+    (λ c. omega arith)
     element-copy-out-wide
     wide-requires
     element-copy-out-wide-2
@@ -81,13 +66,11 @@ largest-spec =
     array-read-if1
     array-read-if1-2
     add-s
-    states-less
-    states-again
+    (λ c. omega arith) (λ c. omega arith)
     array-read-most
     array-write-most
     element-copy-out-keep
     array-write-keep
     add-s-2
-    states-less-2
-    states-again-2
+    (λ c. omega arith) (λ c. omega arith)
     (λ c. search needs))

@@ -4,6 +4,7 @@ use native.Mathlib.Omega.{arith}
 use mathlib.Core.Bool.{Bool, false}
 use Prim.Native.Nat.{_≤_, _-_}
 use lib.ListN.{length-replicate}
+use Rattle.model.specs.Limits.{STATES}
 use Rattle.needs.specs.Again.{Covered}
 use Rattle.needs.proofs.Moving.{covered-none, covered-more, covered-all}
 use Rattle.needs.proofs.changes.leading.Statement.{statement}
@@ -16,7 +17,7 @@ abbrev μ-moved : tie.MeasureT-moved
 μ-moved before moved count marks₀ i₀ marks i = count - i
 
 moved-holds : tie.Need-moved-holds Inv-moved μ-moved
-moved-holds c = (omega arith, covered-none (length-replicate {A = Bool} 128 false))
+moved-holds c = (omega arith, covered-none (length-replicate {A = Bool} STATES false))
 
 element-copy-out-wide : tie.Need-element-copy-out-wide Inv-moved μ-moved
 element-copy-out-wide c = omega (arith, c .before .before .pre .most)
@@ -30,9 +31,6 @@ merge-requires c κs =
 
 add-i : tie.Need-add-i Inv-moved μ-moved
 add-i c = omega (arith, c .before .before .before .before .before .before .pre .most)
-
-moved-less : tie.Need-moved-less Inv-moved μ-moved
-moved-less c = omega arith
 
 moved-again : tie.Need-moved-again Inv-moved μ-moved
 moved-again c = (omega arith, covered-more (c .before .before .before .before .before .moved .inv .1) (c .before .before .wide .ensures) (c .merge .ensures))
@@ -51,6 +49,6 @@ leading-spec =
     wide-requires
     merge-requires
     add-i
-    moved-less
+    (λ c. omega arith)
     moved-again
     returns)

@@ -17,20 +17,11 @@ abbrev μ-states : tie.MeasureT-states
 states-holds : tie.Need-states-holds Inv-states μ-states
 states-holds c = (omega arith, merged-none (c .pre .1))
 
-add-or : tie.Need-add-or Inv-states μ-states
-add-or c = omega arith
-
 element-copy-out-or-2 : tie.Need-element-copy-out-or-2 Inv-states μ-states
 element-copy-out-or-2 c = omega (arith, c .before .before .before .pre .0)
 
 or-requires : tie.Need-or-requires Inv-states μ-states
 or-requires c κs = tt
-
-add-s : tie.Need-add-s Inv-states μ-states
-add-s c = omega arith
-
-states-less : tie.Need-states-less Inv-states μ-states
-states-less c = omega arith
 
 states-again : tie.Need-states-again Inv-states μ-states
 states-again c = (omega arith, merged-more (c .before .before .before .before .states .inv .1) (c .before .before .before .states-test .taken) (c .or .ensures))
@@ -45,12 +36,12 @@ merge-spec =
     Inv-states
     μ-states
     states-holds
-    (λ c. search needs) (λ c. search needs)
-    add-or
+    (λ c. search needs)
+    (λ c. search needs)
+    (λ c. omega arith)
     element-copy-out-or-2
     or-requires
     (λ c. search needs)
-    add-s
-    states-less
+    (λ c. omega arith) (λ c. omega arith)
     states-again
     returns)

@@ -4,6 +4,7 @@ use native.Mathlib.Omega.{arith}
 use mathlib.Core.Bool.{Bool, false}
 use Prim.Native.Nat.{_≤_, _-_}
 use lib.ListN.{length-replicate}
+use Rattle.model.specs.Limits.{STATES}
 use Rattle.needs.proofs.Looking.{TouchedTo, touched-none, touched-skip, touched-merge, touched-all}
 use Rattle.needs.proofs.changes.touched.Statement.{statement}
 use Rattle.needs.proofs.changes.touched.Tie as tie
@@ -15,7 +16,7 @@ abbrev μ-states : tie.MeasureT-states
 μ-states before next c d keep states actions marks₀ x₀ marks x = states - x
 
 states-holds : tie.Need-states-holds Inv-states μ-states
-states-holds c = (omega arith, touched-none (length-replicate {A = Bool} 128 false))
+states-holds c = (omega arith, touched-none (length-replicate {A = Bool} STATES false))
 
 element-copy-out-wide : tie.Need-element-copy-out-wide Inv-states μ-states
 element-copy-out-wide c = omega (arith, c .before .before .before .pre .0 .states-most)
@@ -32,9 +33,6 @@ element-copy-out-if1-2 c = omega (arith, c .before .before .before .before .befo
 add-x : tie.Need-add-x Inv-states μ-states
 add-x c = omega (arith, c .before .before .before .before .before .before .before .before .pre .0 .states-most)
 
-states-less : tie.Need-states-less Inv-states μ-states
-states-less c = omega arith
-
 states-again : tie.Need-states-again Inv-states μ-states
 states-again c = (omega arith, touched-skip (c .before .before .before .before .before .before .states .inv .1) (c .before .before .before .wide .ensures) (c .if1 .taken))
 
@@ -43,9 +41,6 @@ merge-requires c κs = (omega (arith, c .before .before .before .before .before 
 
 add-x-2 : tie.Need-add-x-2 Inv-states μ-states
 add-x-2 c = omega (arith, c .before .before .before .before .before .before .before .before .before .before .pre .0 .states-most)
-
-states-less-2 : tie.Need-states-less-2 Inv-states μ-states
-states-less-2 c = omega arith
 
 states-again-2 : tie.Need-states-again-2 Inv-states μ-states
 states-again-2 c = (omega arith, touched-merge (c .before .before .before .before .before .before .before .before .states .inv .1) (c .merge .ensures))
@@ -65,10 +60,10 @@ touched-spec =
     element-copy-out-if1
     element-copy-out-if1-2
     add-x
-    states-less
+    (λ c. omega arith)
     states-again
     merge-requires
     add-x-2
-    states-less-2
+    (λ c. omega arith)
     states-again-2
     returns)

@@ -4,6 +4,7 @@ use native.Mathlib.Omega.{arith}
 use mathlib.Core.Path.{refl, _∙_}
 use Prim.Native.Nat.{ℕ, _≤_, _-_}
 use lib.ListN.{length-replicate}
+use Rattle.model.specs.Limits.{STATES}
 use Rattle.reach.specs.Set.{flagAt}
 use Rattle.needs.specs.Classes.{Led}
 use Rattle.needs.specs.Starts.{SLOTS, Begun}
@@ -22,7 +23,7 @@ abbrev μ-states : tie.MeasureT-states
 μ-states outputs own count inside states actions d₀ starts₀ s₀ d starts s = states - s
 
 states-holds : tie.Need-states-holds Inv-states μ-states
-states-holds c = (omega arith, led-none _ _ refl, begun-none _ _ _ _ (length-replicate {A = ℕ} SLOTS 128))
+states-holds c = (omega arith, led-none _ _ refl, begun-none _ _ _ _ (length-replicate {A = ℕ} SLOTS STATES))
 
 first-seen-requires : tie.Need-first-seen-requires Inv-states μ-states
 first-seen-requires c κs =
@@ -38,9 +39,6 @@ array-write-d c = omega (arith, c .before .before .before .before .before .befor
 
 add-s : tie.Need-add-s Inv-states μ-states
 add-s c = omega (arith, c .before .before .before .before .before .before .before .pre .1)
-
-states-less : tie.Need-states-less Inv-states μ-states
-states-less c = omega arith
 
 states-again : tie.Need-states-again Inv-states μ-states
 states-again c =
@@ -61,6 +59,6 @@ first-round-spec =
     narrow-requires
     array-write-d
     add-s
-    states-less
+    (λ c. omega arith)
     states-again
     returns)

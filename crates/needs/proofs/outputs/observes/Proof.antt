@@ -28,12 +28,6 @@ owner-requires c κs = tt
 returns : tie.Need-returns Inv-actions μ-actions
 returns c = some-yes _ _ _ (c .before .before .before .actions-test .taken) (eq-eqb _ _ (sym (c .before .owner .ensures) ∙ c .if1 .taken))
 
-add-a : tie.Need-add-a Inv-actions μ-actions
-add-a c = omega arith
-
-actions-less : tie.Need-actions-less Inv-actions μ-actions
-actions-less c = omega arith
-
 actions-again : tie.Need-actions-again Inv-actions μ-actions
 actions-again c = (omega arith, held-more _ _ (c .before .before .before .before .actions .inv .1) (ap not (ne-eqb _ _ (λ q. c .if1 .left (c .before .owner .ensures ∙ q)))))
 
@@ -49,7 +43,6 @@ observes-spec =
     actions-holds
     owner-requires
     returns
-    add-a
-    actions-less
+    (λ c. omega arith) (λ c. omega arith)
     actions-again
     returns-2)

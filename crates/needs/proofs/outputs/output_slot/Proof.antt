@@ -39,9 +39,6 @@ add-slot c = omega (arith, slot-bound _ _ (c .before .before .before .before .ac
 add-i : tie.Need-add-i Inv-actions μ-actions
 add-i c = let q = c .before .before .before .before .before .before .pre in omega (arith, q .0 .most, q .0 .actions-most)
 
-actions-less : tie.Need-actions-less Inv-actions μ-actions
-actions-less c = omega arith
-
 actions-again : tie.Need-actions-again Inv-actions μ-actions
 actions-again c =
     let g = c .before .before .before .before .before .before .args in
@@ -63,6 +60,6 @@ output-slot-spec =
     mul-slot
     add-slot
     add-i
-    actions-less
+    (λ c. omega arith)
     actions-again
     returns)

@@ -3,6 +3,7 @@
 use native.Mathlib.Omega.{arith}
 use Prim.Native.Nat.{ℕ, _≤_, _-_}
 use lib.ListN.{length-replicate}
+use Rattle.model.specs.Limits.{ACTIONS}
 use Rattle.needs.specs.Own.{Owned}
 use Rattle.needs.proofs.Owning.{owned-none, owned-skip, owned-more, owned-all}
 use Rattle.needs.proofs.outputs.own_actions.Statement.{statement}
@@ -15,7 +16,7 @@ abbrev μ-actions : tie.MeasureT-actions
 μ-actions owners actions u list₀ count₀ a₀ list count a = actions - a
 
 actions-holds : tie.Need-actions-holds Inv-actions μ-actions
-actions-holds c = (omega arith, owned-none (length-replicate {A = ℕ} 32 0))
+actions-holds c = (omega arith, owned-none (length-replicate {A = ℕ} ACTIONS 0))
 
 owner-requires : tie.Need-owner-requires Inv-actions μ-actions
 owner-requires c κs = tt
@@ -29,21 +30,9 @@ array-write-list c = omega (arith, c .before .before .before .before .before .ac
 add-count : tie.Need-add-count Inv-actions μ-actions
 add-count c = omega (arith, c .before .before .before .before .before .actions .inv .1 .most, c .before .before .before .before .before .before .pre)
 
-add-a : tie.Need-add-a Inv-actions μ-actions
-add-a c = omega arith
-
-actions-less : tie.Need-actions-less Inv-actions μ-actions
-actions-less c = omega arith
-
 actions-again : tie.Need-actions-again Inv-actions μ-actions
 actions-again c =
     (omega arith, owned-more (c .before .before .before .before .before .actions .inv .1) (omega (arith, c .before .before .before .before .before .before .pre)) (c .before .before .owner .ensures) (c .before .if1 .taken) (c .narrow .ensures))
-
-add-a-2 : tie.Need-add-a-2 Inv-actions μ-actions
-add-a-2 c = omega arith
-
-actions-less-2 : tie.Need-actions-less-2 Inv-actions μ-actions
-actions-less-2 c = omega arith
 
 actions-again-2 : tie.Need-actions-again-2 Inv-actions μ-actions
 actions-again-2 c = (omega arith, owned-skip (c .before .before .before .before .actions .inv .1) (c .before .owner .ensures) (c .if1 .left))
@@ -62,10 +51,8 @@ own-actions-spec =
     narrow-requires
     array-write-list
     add-count
-    add-a
-    actions-less
+    (λ c. omega arith) (λ c. omega arith)
     actions-again
-    add-a-2
-    actions-less-2
+    (λ c. omega arith) (λ c. omega arith)
     actions-again-2
     returns)

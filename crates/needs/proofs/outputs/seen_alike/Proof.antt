@@ -39,9 +39,6 @@ returns c =
 add-i : tie.Need-add-i Inv-actions μ-actions
 add-i c = let q = c .before .before .before .before .before .before .before .before .pre in omega (arith, q .0 .most, q .0 .actions-most)
 
-actions-less : tie.Need-actions-less Inv-actions μ-actions
-actions-less c = omega arith
-
 actions-again : tie.Need-actions-again Inv-actions μ-actions
 actions-again c =
     let g = c .before .before .before .before .before .before .before .before .args in
@@ -64,6 +61,6 @@ seen-alike-spec =
     output-requires-2
     returns
     add-i
-    actions-less
+    (λ c. omega arith)
     actions-again
     returns-2)

@@ -29,9 +29,6 @@ wide-requires c κs = tt
 add-t : tie.Need-add-t Inv-earlier μ-earlier
 add-t c = omega (arith, c .before .before .before .before .before .before .pre .1 .1 .1 .1)
 
-earlier-less : tie.Need-earlier-less Inv-earlier μ-earlier
-earlier-less c = omega arith
-
 earlier-again : tie.Need-earlier-again Inv-earlier μ-earlier
 earlier-again c =
     let q = c .before .before .before .before .before .before .pre in
@@ -48,9 +45,6 @@ returns c =
 
 add-t-2 : tie.Need-add-t-2 Inv-earlier μ-earlier
 add-t-2 c = omega (arith, c .before .before .before .before .before .before .before .before .pre .1 .1 .1 .1)
-
-earlier-less-2 : tie.Need-earlier-less-2 Inv-earlier μ-earlier
-earlier-less-2 c = omega arith
 
 earlier-again-2 : tie.Need-earlier-again-2 Inv-earlier μ-earlier
 earlier-again-2 c =
@@ -69,11 +63,11 @@ seen-from-spec =
     element-copy-out-wide
     wide-requires
     add-t
-    earlier-less
+    (λ c. omega arith)
     earlier-again
     joins-first-requires
     returns
     add-t-2
-    earlier-less-2
+    (λ c. omega arith)
     earlier-again-2
     returns-2)

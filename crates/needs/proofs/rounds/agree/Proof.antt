@@ -29,12 +29,6 @@ returns-2 c =
     let m = c .before .before .before in
     agrees-parts (stepIn (g .actions) (g .next .now)) _ (entry (g .c .now)) _ _ (m .before .before .actions-test .taken) (m .before .step .ensures .0) (m .step2 .ensures .0) (c .if2 .taken)
 
-add-a : tie.Need-add-a Inv-actions μ-actions
-add-a c = omega arith
-
-actions-less : tie.Need-actions-less Inv-actions μ-actions
-actions-less c = omega arith
-
 actions-again : tie.Need-actions-again Inv-actions μ-actions
 actions-again c =
     let g = c .before .before .before .before .before .before .before .before .before .before .before .args in
@@ -52,12 +46,15 @@ agree-spec =
     (tie.spec
     Inv-actions
     μ-actions
-    (λ c. search needs) (λ c. search needs)
+    (λ c. search needs)
+    (λ c. search needs)
     returns
     actions-holds
-    (λ c κs. search needs) (λ c κs. search needs) (λ c. search needs) (λ c. search needs)
+    (λ c κs. search needs)
+    (λ c κs. search needs)
+    (λ c. search needs)
+    (λ c. search needs)
     returns-2
-    add-a
-    actions-less
+    (λ c. omega arith) (λ c. omega arith)
     actions-again
     returns-3)

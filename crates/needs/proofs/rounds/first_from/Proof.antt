@@ -30,9 +30,6 @@ wide-requires c κs = tt
 add-t : tie.Need-add-t Inv-earlier μ-earlier
 add-t c = omega (arith, c .before .before .before .before .before .before .pre .0 .states-most)
 
-earlier-less : tie.Need-earlier-less Inv-earlier μ-earlier
-earlier-less c = omega arith
-
 earlier-again : tie.Need-earlier-again Inv-earlier μ-earlier
 earlier-again c =
     let q = c .before .before .before .before .before .before .pre in
@@ -45,9 +42,6 @@ returns c =
 
 add-t-2 : tie.Need-add-t-2 Inv-earlier μ-earlier
 add-t-2 c = omega (arith, c .before .before .before .before .before .before .before .before .pre .0 .states-most)
-
-earlier-less-2 : tie.Need-earlier-less-2 Inv-earlier μ-earlier
-earlier-less-2 c = omega arith
 
 earlier-again-2 : tie.Need-earlier-again-2 Inv-earlier μ-earlier
 earlier-again-2 c =
@@ -66,11 +60,11 @@ first-from-spec =
     element-copy-out-wide
     wide-requires
     add-t
-    earlier-less
+    (λ c. omega arith)
     earlier-again
     (λ c κs. search needs)
     returns
     add-t-2
-    earlier-less-2
+    (λ c. omega arith)
     earlier-again-2
     returns-2)

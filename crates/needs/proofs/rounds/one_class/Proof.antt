@@ -26,12 +26,6 @@ states-holds c = (omega arith, held-none _)
 element-copy-out-if1 : tie.Need-element-copy-out-if1 Inv-states μ-states
 element-copy-out-if1 c = omega (arith, c .before .before .pre)
 
-add-s : tie.Need-add-s Inv-states μ-states
-add-s c = omega arith
-
-states-less : tie.Need-states-less Inv-states μ-states
-states-less c = omega arith
-
 states-again : tie.Need-states-again Inv-states μ-states
 states-again c = (omega arith, held-more _ _ (c .before .before .before .states .inv .1) (brings-of _ (λ i. eq-eqb _ _ (c .if1 .taken))))
 
@@ -41,12 +35,6 @@ element-copy-out-if2 c = omega (arith, c .before .before .before .before .pre)
 returns : tie.Need-returns Inv-states μ-states
 unfolding brings
 returns c = every-no _ _ _ (c .before .before .before .before .states-test .taken) (rw (c .if2 .taken, ne-eqb _ _ (c .before .before .if1 .left)))
-
-add-s-2 : tie.Need-add-s-2 Inv-states μ-states
-add-s-2 c = omega arith
-
-states-less-2 : tie.Need-states-less-2 Inv-states μ-states
-states-less-2 c = omega arith
 
 states-again-2 : tie.Need-states-again-2 Inv-states μ-states
 states-again-2 c = (omega arith, held-more _ _ (c .before .before .before .before .before .states .inv .1) (brings-of _ (λ i. not-both i (c .if2 .left))))
@@ -62,12 +50,10 @@ one-class-spec =
     μ-states
     states-holds
     element-copy-out-if1
-    add-s
-    states-less
+    (λ c. omega arith) (λ c. omega arith)
     states-again
     element-copy-out-if2
     returns
-    add-s-2
-    states-less-2
+    (λ c. omega arith) (λ c. omega arith)
     states-again-2
     returns-2)

@@ -4,6 +4,7 @@ use native.Mathlib.Omega.{arith}
 use mathlib.Core.Path.{refl, sym, _∙_}
 use Prim.Native.Nat.{ℕ, _≤_, _-_}
 use lib.ListN.{length-replicate}
+use Rattle.model.specs.Limits.{STATES}
 use Rattle.reach.specs.Set.{flagAt}
 use Rattle.needs.specs.Tables.{stepIn, entry}
 use Rattle.needs.specs.Classes.{agrees, Led}
@@ -27,7 +28,7 @@ abbrev μ-states : tie.MeasureT-states
 
 states-holds : tie.Need-states-holds Inv-states μ-states
 states-holds c =
-    (omega arith, led-none _ _ refl, leads-none, begun-none _ _ _ _ (length-replicate {A = ℕ} SLOTS 128), moved-none (length-replicate {A = ℕ} 128 0))
+    (omega arith, led-none _ _ refl, leads-none, begun-none _ _ _ _ (length-replicate {A = ℕ} SLOTS STATES), moved-none (length-replicate {A = ℕ} STATES 0))
 
 next-number-requires : tie.Need-next-number-requires Inv-states μ-states
 next-number-requires c κs =
@@ -49,9 +50,6 @@ wide-requires c κs = tt
 
 add-s : tie.Need-add-s Inv-states μ-states
 add-s c = omega (arith, c .before .before .before .before .before .before .before .before .before .before .before .pre .0 .states-most)
-
-states-less : tie.Need-states-less Inv-states μ-states
-states-less c = omega arith
 
 states-again : tie.Need-states-again Inv-states μ-states
 states-again c =
@@ -77,9 +75,6 @@ add-count c = omega (arith, c .before .before .before .before .before .before .b
 
 add-s-2 : tie.Need-add-s-2 Inv-states μ-states
 add-s-2 c = omega (arith, c .before .before .before .before .before .before .before .before .before .before .before .before .pre .0 .states-most)
-
-states-less-2 : tie.Need-states-less-2 Inv-states μ-states
-states-less-2 c = omega arith
 
 states-again-2 : tie.Need-states-again-2 Inv-states μ-states
 states-again-2 c =
@@ -112,12 +107,12 @@ round-spec =
     element-copy-out-wide
     wide-requires
     add-s
-    states-less
+    (λ c. omega arith)
     states-again
     narrow-requires-2
     array-write-moved
     add-count
     add-s-2
-    states-less-2
+    (λ c. omega arith)
     states-again-2
     returns)

@@ -38,9 +38,6 @@ returns c =
 add-i : tie.Need-add-i Inv-moved μ-moved
 add-i c = omega (arith, c .before .before .before .before .before .before .pre .most)
 
-moved-less : tie.Need-moved-less Inv-moved μ-moved
-moved-less c = omega arith
-
 moved-again : tie.Need-moved-again Inv-moved μ-moved
 moved-again c =
     let g = c .before .before .before .before .before .before .args in
@@ -61,6 +58,6 @@ settled-spec =
     element-copy-out-if1
     returns
     add-i
-    moved-less
+    (λ c. omega arith)
     moved-again
     returns-2)

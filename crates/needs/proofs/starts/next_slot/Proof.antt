@@ -39,9 +39,6 @@ add-slot c =
 add-a : tie.Need-add-a Inv-actions μ-actions
 add-a c = omega (arith, c .before .before .before .before .before .before .pre .0 .actions-most)
 
-actions-less : tie.Need-actions-less Inv-actions μ-actions
-actions-less c = omega arith
-
 actions-again : tie.Need-actions-again Inv-actions μ-actions
 actions-again c =
     let g = c .before .before .before .before .before .before .args in
@@ -63,6 +60,6 @@ next-slot-spec =
     mul-slot
     add-slot
     add-a
-    actions-less
+    (λ c. omega arith)
     actions-again
     returns)

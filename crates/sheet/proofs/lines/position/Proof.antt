@@ -15,9 +15,6 @@ Inv-loop ids id k₀ k = endOf id ids k ≡ before id ids
 abbrev μ-loop : tie.MeasureT-loop
 μ-loop ids id k₀ k = length ids - k
 
-loop-holds : tie.Need-loop-holds Inv-loop μ-loop
-loop-holds c = omega arith
-
 returns : tie.Need-returns Inv-loop μ-loop
 returns c = sym (end-here _ _ _ (omega arith) (c .if1 .taken)) ∙ c .before .before .before .loop .inv
 
@@ -33,9 +30,11 @@ position-spec =
     (tie.spec
     Inv-loop
     μ-loop
-    loop-holds
-    (λ c. search needs) (λ c. search needs)
+    (λ c. omega arith)
+    (λ c. search needs)
+    (λ c. search needs)
     returns
-    (λ c. search needs) (λ c. search needs)
+    (λ c. search needs)
+    (λ c. search needs)
     loop-again
     returns-2)

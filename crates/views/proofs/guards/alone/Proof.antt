@@ -18,18 +18,9 @@ Inv-states low states u s₀ s = (s ≤ states) × Held s (λ s. eqb (lowAt low 
 abbrev μ-states : tie.MeasureT-states
 μ-states low states u s₀ s = states - s
 
-low-of-requires : tie.Need-low-of-requires Inv-states μ-states
-low-of-requires c κs = omega arith
-
 returns : tie.Need-returns Inv-states μ-states
 unfolding aloneIn
 returns c = every-no _ _ _ (c .before .before .states-test .taken) (ne-eqb _ _ (λ e. c .if1 .taken (c .before .low-of .ensures ∙ e)))
-
-add-s : tie.Need-add-s Inv-states μ-states
-add-s c = omega arith
-
-states-less : tie.Need-states-less Inv-states μ-states
-states-less c = omega arith
 
 states-again : tie.Need-states-again Inv-states μ-states
 states-again c =
@@ -47,9 +38,8 @@ alone-spec =
     Inv-states
     μ-states
     (λ c. search sweep-every)
-    low-of-requires
+    (λ c κs. omega arith)
     returns
-    add-s
-    states-less
+    (λ c. omega arith) (λ c. omega arith)
     states-again
     returns-2)

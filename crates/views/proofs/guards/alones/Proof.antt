@@ -16,18 +16,6 @@ abbrev μ-boxes : tie.MeasureT-boxes
 boxes-holds : tie.Need-boxes-holds Inv-boxes μ-boxes
 boxes-holds c = (omega arith, alones-none _ _)
 
-alone-requires : tie.Need-alone-requires Inv-boxes μ-boxes
-alone-requires c κs = omega arith
-
-array-write-alones : tie.Need-array-write-alones Inv-boxes μ-boxes
-array-write-alones c = omega arith
-
-add-u : tie.Need-add-u Inv-boxes μ-boxes
-add-u c = omega arith
-
-boxes-less : tie.Need-boxes-less Inv-boxes μ-boxes
-boxes-less c = omega arith
-
 boxes-again : tie.Need-boxes-again Inv-boxes μ-boxes
 boxes-again c =
     let c2 = c .before .before in
@@ -43,9 +31,6 @@ alones-spec =
     Inv-boxes
     μ-boxes
     boxes-holds
-    alone-requires
-    array-write-alones
-    add-u
-    boxes-less
+    (λ c κs. omega arith) (λ c. omega arith) (λ c. omega arith) (λ c. omega arith)
     boxes-again
     returns)

@@ -26,21 +26,6 @@ first-alike-requires c κs =
 narrow-requires : tie.Need-narrow-requires Inv-states μ-states
 narrow-requires c κs = omega (arith, c .first-alike .ensures .1 .upto)
 
-mul-low : tie.Need-mul-low Inv-states μ-states
-mul-low c = omega arith
-
-add-low : tie.Need-add-low Inv-states μ-states
-add-low c = omega arith
-
-element-write-low : tie.Need-element-write-low Inv-states μ-states
-element-write-low c = omega arith
-
-add-s : tie.Need-add-s Inv-states μ-states
-add-s c = omega arith
-
-states-less : tie.Need-states-less Inv-states μ-states
-states-less c = omega arith
-
 states-again : tie.Need-states-again Inv-states μ-states
 states-again c =
     let c3 = c .before .before .before in
@@ -64,10 +49,6 @@ fill-row-spec =
     states-holds
     first-alike-requires
     narrow-requires
-    mul-low
-    add-low
-    element-write-low
-    add-s
-    states-less
+    (λ c. omega arith) (λ c. omega arith) (λ c. omega arith) (λ c. omega arith) (λ c. omega arith)
     states-again
     returns)

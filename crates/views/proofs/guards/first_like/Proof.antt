@@ -15,24 +15,12 @@ abbrev μ-earlier : tie.MeasureT-earlier
 earlier-holds : tie.Need-earlier-holds Inv-earlier μ-earlier
 earlier-holds c = (omega arith, unlike-none _ _ _ _)
 
-entry-requires : tie.Need-entry-requires Inv-earlier μ-earlier
-entry-requires c κs = omega arith
-
-entry-requires-2 : tie.Need-entry-requires-2 Inv-earlier μ-earlier
-entry-requires-2 c κs = omega arith
-
 returns : tie.Need-returns Inv-earlier μ-earlier
 returns c =
     let c2 = c .before .before in
     let c3 = c2 .before in
     let c4 = c3 .before in
     least-found (c4 .earlier .inv .1) (c3 .earlier-test .taken) (c2 .entry .ensures) (c .before .entry2 .ensures) (c .if1 .taken)
-
-add-t : tie.Need-add-t Inv-earlier μ-earlier
-add-t c = omega arith
-
-earlier-less : tie.Need-earlier-less Inv-earlier μ-earlier
-earlier-less c = omega arith
 
 earlier-again : tie.Need-earlier-again Inv-earlier μ-earlier
 earlier-again c =
@@ -50,10 +38,8 @@ first-like-spec =
     Inv-earlier
     μ-earlier
     earlier-holds
-    entry-requires
-    entry-requires-2
+    (λ c κs. omega arith) (λ c κs. omega arith)
     returns
-    add-t
-    earlier-less
+    (λ c. omega arith) (λ c. omega arith)
     earlier-again
     returns-2)

@@ -21,12 +21,6 @@ stirs-requires c κs =
     let c3 = c .before .before .before in
     (c3 .pre, c .actions-test .taken)
 
-add-a : tie.Need-add-a Inv-actions μ-actions
-add-a c = omega arith
-
-actions-less : tie.Need-actions-less Inv-actions μ-actions
-actions-less c = omega arith
-
 actions-again : tie.Need-actions-again Inv-actions μ-actions
 actions-again c =
     let c3 = c .before .before .before in
@@ -38,12 +32,6 @@ note-idle-requires c κs =
     let c4 = c2 .before .before in
     let c6 = c4 .before .before in
     (c4 .actions .inv .1, (c2 .stirs .ensures (c .before .if1 .left), omega (arith, c6 .pre .actions-most)))
-
-add-a-2 : tie.Need-add-a-2 Inv-actions μ-actions
-add-a-2 c = omega arith
-
-actions-less-2 : tie.Need-actions-less-2 Inv-actions μ-actions
-actions-less-2 c = omega arith
 
 actions-again-2 : tie.Need-actions-again-2 Inv-actions μ-actions
 actions-again-2 c = (omega arith, c .note-idle .ensures)
@@ -59,11 +47,9 @@ idles-spec =
     μ-actions
     actions-holds
     stirs-requires
-    add-a
-    actions-less
+    (λ c. omega arith) (λ c. omega arith)
     actions-again
     note-idle-requires
-    add-a-2
-    actions-less-2
+    (λ c. omega arith) (λ c. omega arith)
     actions-again-2
     returns)

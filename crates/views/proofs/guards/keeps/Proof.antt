@@ -31,12 +31,6 @@ sends-requires c κs =
 returns : tie.Need-returns Inv-states μ-states
 returns c = λ e. not-both e refl
 
-add-s : tie.Need-add-s Inv-states μ-states
-add-s c = omega arith
-
-states-less : tie.Need-states-less Inv-states μ-states
-states-less c = omega arith
-
 states-again : tie.Need-states-again Inv-states μ-states
 states-again c =
     let c2 = c .before .before in
@@ -56,7 +50,6 @@ keeps-spec =
     low-of-requires
     sends-requires
     returns
-    add-s
-    states-less
+    (λ c. omega arith) (λ c. omega arith)
     states-again
     returns-2)

@@ -18,12 +18,6 @@ boxes-holds c = (omega arith, filled-none _ _)
 fill-row-requires : tie.Need-fill-row-requires Inv-boxes μ-boxes
 fill-row-requires c κs = (c .before .before .boxes .inv .1, (c .before .before .before .before .pre .0, omega arith))
 
-add-u : tie.Need-add-u Inv-boxes μ-boxes
-add-u c = omega arith
-
-boxes-less : tie.Need-boxes-less Inv-boxes μ-boxes
-boxes-less c = omega arith
-
 boxes-again : tie.Need-boxes-again Inv-boxes μ-boxes
 boxes-again c = (omega arith, c .fill-row .ensures)
 
@@ -33,4 +27,11 @@ returns c = filled-all (c .before .boxes .inv .1) (c .boxes-test .left)
 pub lows-spec : {M : Type 1} → statement M
 lows-spec =
     tie.close
-    (tie.spec Inv-boxes μ-boxes boxes-holds fill-row-requires add-u boxes-less boxes-again returns)
+    (tie.spec
+    Inv-boxes
+    μ-boxes
+    boxes-holds
+    fill-row-requires
+    (λ c. omega arith) (λ c. omega arith)
+    boxes-again
+    returns)

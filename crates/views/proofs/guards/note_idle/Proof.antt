@@ -17,21 +17,6 @@ abbrev μ-boxes : tie.MeasureT-boxes
 boxes-holds : tie.Need-boxes-holds Inv-boxes μ-boxes
 boxes-holds c = (omega arith, c .pre .0)
 
-mul-kept : tie.Need-mul-kept Inv-boxes μ-boxes
-mul-kept c = omega arith
-
-add-kept : tie.Need-add-kept Inv-boxes μ-boxes
-add-kept c = omega arith
-
-element-write-kept : tie.Need-element-write-kept Inv-boxes μ-boxes
-element-write-kept c = omega arith
-
-add-u : tie.Need-add-u Inv-boxes μ-boxes
-add-u c = omega arith
-
-boxes-less : tie.Need-boxes-less Inv-boxes μ-boxes
-boxes-less c = omega arith
-
 boxes-again : tie.Need-boxes-again Inv-boxes μ-boxes
 boxes-again c =
     let c2 = c .before .before in
@@ -48,10 +33,6 @@ note-idle-spec =
     Inv-boxes
     μ-boxes
     boxes-holds
-    mul-kept
-    add-kept
-    element-write-kept
-    add-u
-    boxes-less
+    (λ c. omega arith) (λ c. omega arith) (λ c. omega arith) (λ c. omega arith) (λ c. omega arith)
     boxes-again
     returns)

@@ -20,12 +20,6 @@ Inv-states low outputs states actions o a s₀ s = (s ≤ states) × Held s (λ 
 abbrev μ-states : tie.MeasureT-states
 μ-states low outputs states actions o a s₀ s = states - s
 
-low-of-requires : tie.Need-low-of-requires Inv-states μ-states
-low-of-requires c κs = omega arith
-
-at-state-requires : tie.Need-at-state-requires Inv-states μ-states
-at-state-requires c κs = omega arith
-
 at-state-requires-2 : tie.Need-at-state-requires-2 Inv-states μ-states
 at-state-requires-2 c κs =
     let c2 = c .before .before in
@@ -41,12 +35,6 @@ returns c =
     let c4 = c3 .before in
     every-no _ _ _ (c4 .states-test .taken) (ne-eqb _ _ (λ e. c .if1 .taken (c2 .at-state .ensures ∙ e ∙ sym (rw (c3 .low-of .ensures) at
     (c .before .at-state2 .ensures)))))
-
-add-s : tie.Need-add-s Inv-states μ-states
-add-s c = omega arith
-
-states-less : tie.Need-states-less Inv-states μ-states
-states-less c = omega arith
 
 states-again : tie.Need-states-again Inv-states μ-states
 states-again c =
@@ -69,11 +57,9 @@ quiet-spec =
     Inv-states
     μ-states
     (λ c. search sweep-every)
-    low-of-requires
-    at-state-requires
+    (λ c κs. omega arith) (λ c κs. omega arith)
     at-state-requires-2
     returns
-    add-s
-    states-less
+    (λ c. omega arith) (λ c. omega arith)
     states-again
     returns-2)

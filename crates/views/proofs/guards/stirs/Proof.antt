@@ -27,12 +27,6 @@ at-state-requires c κs =
 returns : tie.Need-returns Inv-states μ-states
 returns c = λ e. not-both refl e
 
-add-s : tie.Need-add-s Inv-states μ-states
-add-s c = omega arith
-
-states-less : tie.Need-states-less Inv-states μ-states
-states-less c = omega arith
-
 states-again : tie.Need-states-again Inv-states μ-states
 states-again c =
     let c3 = c .before .before .before in
@@ -50,7 +44,6 @@ stirs-spec =
     states-holds
     at-state-requires
     returns
-    add-s
-    states-less
+    (λ c. omega arith) (λ c. omega arith)
     states-again
     returns-2)

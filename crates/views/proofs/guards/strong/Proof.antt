@@ -22,12 +22,6 @@ abbrev μ-states : tie.MeasureT-states
 low-of-requires : tie.Need-low-of-requires Inv-states μ-states
 low-of-requires c κs = (c .before .before .before .pre .1 .1 .0, omega (arith, c .before .before .before .pre .0 .states-most))
 
-add-s : tie.Need-add-s Inv-states μ-states
-add-s c = omega arith
-
-states-less : tie.Need-states-less Inv-states μ-states
-states-less c = omega arith
-
 states-again : tie.Need-states-again Inv-states μ-states
 states-again c =
     let c3 = c .before .before .before in
@@ -64,12 +58,6 @@ returns c =
     every-no _ _ _ (c5 .states-test .taken) (ne-eqb _ _ (λ e. c .if2 .taken (c2 .sends .ensures ∙ e ∙ sym (rw (c4 .low-of .ensures) at
     (c .before .sends2 .ensures)))))
 
-add-s-2 : tie.Need-add-s-2 Inv-states μ-states
-add-s-2 c = omega arith
-
-states-less-2 : tie.Need-states-less-2 Inv-states μ-states
-states-less-2 c = omega arith
-
 states-again-2 : tie.Need-states-again-2 Inv-states μ-states
 states-again-2 c =
     let c2 = c .before .before in
@@ -92,13 +80,11 @@ strong-spec =
     μ-states
     (λ c. search sweep-every)
     low-of-requires
-    add-s
-    states-less
+    (λ c. omega arith) (λ c. omega arith)
     states-again
     sends-requires
     sends-requires-2
     returns
-    add-s-2
-    states-less-2
+    (λ c. omega arith) (λ c. omega arith)
     states-again-2
     returns-2)

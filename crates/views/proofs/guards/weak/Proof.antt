@@ -59,12 +59,6 @@ returns c =
     let c9 = c .before .before .before .before .before .before .before .before .before in
     (c9 .states .inv .1, λ e. not-both e refl)
 
-add-s : tie.Need-add-s Inv-states μ-states
-add-s c = omega arith
-
-states-less : tie.Need-states-less Inv-states μ-states
-states-less c = omega arith
-
 states-again : tie.Need-states-again Inv-states μ-states
 states-again c =
     let c2 = c .before .before in
@@ -88,12 +82,6 @@ element-write-table : tie.Need-element-write-table Inv-states μ-states
 element-write-table c =
     let c5 = c .before .before .before .before .before in
     omega (arith, c5 .spot-of .ensures .1)
-
-add-s-2 : tie.Need-add-s-2 Inv-states μ-states
-add-s-2 c = omega arith
-
-states-less-2 : tie.Need-states-less-2 Inv-states μ-states
-states-less-2 c = omega arith
 
 states-again-2 : tie.Need-states-again-2 Inv-states μ-states
 states-again-2 c =
@@ -124,12 +112,10 @@ weak-spec =
     sends-requires
     sends-requires-2
     returns
-    add-s
-    states-less
+    (λ c. omega arith) (λ c. omega arith)
     states-again
     narrow-requires
     element-write-table
-    add-s-2
-    states-less-2
+    (λ c. omega arith) (λ c. omega arith)
     states-again-2
     returns-2)
