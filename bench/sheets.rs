@@ -9,7 +9,7 @@ use std::{env, fs, io};
 const SHEET_BYTES: usize = 32_768;
 const STATES: usize = 128;
 
-const SHAPES: [&str; 8] = ["chain", "ladder", "identity", "pairs", "noise", "still", "late", "wide"];
+const SHAPES: [&str; 9] = ["chain", "descent", "ladder", "identity", "pairs", "noise", "still", "late", "wide"];
 
 /// Actions and boxes.
 const RATIOS: [(&str, usize, usize); 5] = [("even", 12, 12), ("actions", 32, 4), ("both", 32, 16), ("boxes", 8, 16), ("states", 10, 8)];
@@ -43,6 +43,8 @@ fn step(shape: &str, sizes: Sizes, dice: &mut Dice, state: usize, action: usize)
     match shape {
         // One state after the other, and only the last one shows: as many rounds as there are states.
         "chain" => ((state + 1).min(last), usize::from(state == last)),
+        // As chain, the other way: the lowest state shows, so that every state above it has another number in every round.
+        "descent" => (state.saturating_sub(1), usize::from(state == 0)),
         // As chain, but only the first action goes on, the others fall back.
         "ladder" if state == last => (last, 1),
         "ladder" if action == 0 => (state + 1, 0),
@@ -88,7 +90,8 @@ fn sheet(shape: &str, sizes: Sizes, quick: bool) -> String {
     let Sizes { states, actions, boxes } = sizes;
     let mut dice = Dice(0x5EED_2A9A_11CE_0001);
     let ids: Vec<usize> = (0..boxes).map(|position| if shape == "wide" { 65_535 - 7 * position } else { position }).collect();
-    let mut text = format!("sheet\t{states}\t{actions}\t{boxes}\t0\n");
+    let start = if shape == "descent" { states - 1 } else { 0 };
+    let mut text = format!("sheet\t{states}\t{actions}\t{boxes}\t{start}\n");
     for id in &ids {
         text += &format!("box\t{id}\tbox {id}\n");
     }
