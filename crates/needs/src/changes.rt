@@ -1,4 +1,4 @@
-// Which states a round must look at again: those with a next state outside the largest part of its old class.
+// Which states a round must look at again: those with a next state outside the part kept of its old class.
 ghost use mathlib.Core.Path.{_≡_};
 ghost use Prim.Native.Nat.{_<_, _≤_};
 ghost use lib.ListN.{length};

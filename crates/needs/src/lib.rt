@@ -28,7 +28,6 @@ use crate::outputs::observes;
 use crate::outputs::own_actions;
 use crate::rounds::one_class;
 use crate::rounds::round;
-use crate::rounds::settled;
 use model::ARROWS;
 use model::BOXES;
 use model::LIST_ENTRIES;
@@ -97,11 +96,11 @@ fn refine(
             machine.states,
             machine.actions,
         );
-        let moved = outcome.moved;
-        if settled(inside, &moved, outcome.count) {
+        if outcome.same {
             return Refinement { classes, rounds };
         }
         let finer = outcome.classes;
+        let moved = outcome.moved;
         marks = again(
             before,
             next,

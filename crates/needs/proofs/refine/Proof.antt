@@ -4,7 +4,6 @@ use native.Mathlib.Omega.{arith}
 use mathlib.Core.Path.{sym, _∙_}
 use Prim.Native.Nat.{_-_}
 use Rattle.needs.proofs.Agreeing.{led-below}
-use Rattle.needs.proofs.Moving.{places-of, settled-is}
 use Rattle.needs.proofs.Owning.{listing-of, led-own}
 use Rattle.needs.proofs.Refining.{steps, Refining, refining-first, refining-one, refining-most, refining-more, refining-last}
 use Rattle.needs.proofs.refine.Statement.{statement}
@@ -41,30 +40,27 @@ rounds-holds c =
 round-requires : tie.Need-round-requires Inv-rounds μ-rounds
 round-requires c κs = let i = c .before .before .rounds .inv in (steps (i .fits), (i .below, i .quiet))
 
-settled-requires : tie.Need-settled-requires Inv-rounds μ-rounds
-settled-requires c κs = places-of (c .before .before .round .ensures .1) (c .before .before .before .before .before .rounds .inv .fits .good .machine .states-most)
-
 returns-2 : tie.Need-returns-2 Inv-rounds μ-rounds
 returns-2 c =
-    let r = c .before .before .before .before .round .ensures in
-    refining-last (c .before .before .before .before .before .before .before .rounds .inv) (r .0) (sym (settled-is (r .1) _) ∙ sym (c .before .settled .ensures) ∙ c .if2 .taken)
+    let r = c .before .round .ensures in
+    refining-last (c .before .before .before .before .rounds .inv) (r .0) (sym (r .1 .0) ∙ c .if2 .taken)
 
 again-requires : tie.Need-again-requires Inv-rounds μ-rounds
 again-requires c κs =
-    let i = c .before .before .before .before .before .before .before .before .before .before .before .rounds .inv in
-    let r = c .before .before .before .before .before .before .before .before .round .ensures in
-    (steps (i .fits), (i .befores, ((i .below, led-below _ _ (r .0)), r .1)))
+    let i = c .before .before .before .before .before .before .before .before .before .rounds .inv in
+    let r = c .before .before .before .before .before .before .round .ensures in
+    (steps (i .fits), (i .befores, ((i .below, led-below _ _ (r .0)), r .1 .1)))
 
 add-rounds : tie.Need-add-rounds Inv-rounds μ-rounds
-add-rounds c = let i = c .before .before .before .before .before .before .before .before .before .before .before .before .rounds .inv in omega (arith, refining-most i, i .fits .good .machine .states-most)
+add-rounds c = let i = c .before .before .before .before .before .before .before .before .before .before .rounds .inv in omega (arith, refining-most i, i .fits .good .machine .states-most)
 
 rounds-less : tie.Need-rounds-less Inv-rounds μ-rounds
-rounds-less c = let i = c .before .before .before .before .before .before .before .before .before .before .before .before .rounds .inv in omega (arith, refining-most i)
+rounds-less c = let i = c .before .before .before .before .before .before .before .before .before .before .rounds .inv in omega (arith, refining-most i)
 
 rounds-again : tie.Need-rounds-again Inv-rounds μ-rounds
 rounds-again c =
-    let r = c .before .before .before .before .before .before .before .before .before .round .ensures in
-    refining-more (c .before .before .before .before .before .before .before .before .before .before .before .before .rounds .inv) (r .0) (sym (settled-is (r .1) _) ∙ sym (c .before .before .before .before .before .before .settled .ensures) ∙ c .before .before .before .before .before .if2 .left) (c .again .ensures)
+    let r = c .before .before .before .before .before .before .before .round .ensures in
+    refining-more (c .before .before .before .before .before .before .before .before .before .before .rounds .inv) (r .0) (sym (r .1 .0) ∙ c .before .before .before .before .before .before .if2 .left) (c .again .ensures)
 
 pub refine-spec : {M : Type 1} → statement M
 refine-spec =
@@ -78,7 +74,6 @@ refine-spec =
     returns
     rounds-holds
     round-requires
-    settled-requires
     returns-2
     again-requires
     add-rounds

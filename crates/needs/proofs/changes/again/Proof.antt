@@ -1,7 +1,8 @@
 -- `needs::changes::again` meets its contract.
 -- Assumes nothing.
 use borrow.Author.Needs.{needs}
-use Rattle.needs.proofs.Moving.{places-of, covered-touched}
+use native.Mathlib.Omega.{arith}
+use Rattle.needs.proofs.Moving.{covered-touched}
 use Rattle.needs.proofs.changes.again.Statement.{statement}
 use Rattle.needs.proofs.changes.again.Tie as tie
 
@@ -9,10 +10,10 @@ returns : tie.Need-returns
 returns c = c .touched .ensures
 
 leading-requires : tie.Need-leading-requires
-leading-requires c κs = let q = c .before .before .pre in places-of (q .1 .1 .1) (q .0 .states-most)
+leading-requires c κs = c .before .before .pre .1 .1 .1 .places
 
 returns-2 : tie.Need-returns-2
-returns-2 c = let q = c .before .before .before .pre in covered-touched (q .1 .1 .1) (q .0) (q .1 .0) (c .leading .ensures)
+returns-2 c = let q = c .before .before .before .pre in covered-touched (q .1 .1 .1) (omega (arith, c .before .if1 .left)) (q .0) (q .1 .0) (c .leading .ensures)
 
 pub again-spec : {M : Type 1} → statement M
 again-spec =
