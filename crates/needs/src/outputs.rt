@@ -10,6 +10,7 @@ ghost use Rattle.reach.specs.Set.{flagAt};
 ghost use Rattle.needs.specs.Classes.{lowest, Missed, Led};
 ghost use Rattle.needs.specs.Starts.{SLOTS, Begun};
 ghost use Rattle.needs.specs.Own.{Owned, Listing, outputIn, seenBy, outputSlot, noClass};
+use crate::numbers::NO_STATE;
 use crate::numbers::narrow;
 use crate::numbers::wide;
 use crate::numbers::wide16;
@@ -187,7 +188,7 @@ pub(crate) fn first_round(
     ensures { λ r. ⌜ Led (flagAt (now (inside .entry))) (seenBy (now (own .entry)) count (now (outputs .entry)) actions) r states ⌝ }
 {
     let mut d = [0u8; STATES];
-    let mut starts = [128u8; SLOTS];
+    let mut starts = [NO_STATE; SLOTS];
     'states: for s in 0..states {
         let first = first_seen(outputs, own, count, inside, &d, &mut starts, actions, s);
         d[s] = narrow(first);

@@ -12,6 +12,7 @@ ghost use Rattle.needs.specs.Tables.{stepIn, entry, Steps};
 ghost use Rattle.needs.specs.Classes.{lowest, Missed, agrees, unchanged, Below, Led};
 ghost use Rattle.needs.specs.Again.{Quiet, Leads, Places, On, Longer, Stayed, Moved, MovedTo, keptNumber};
 ghost use Rattle.needs.specs.Starts.{nextSlot, Begun};
+use crate::numbers::NO_STATE;
 use crate::numbers::narrow;
 use crate::numbers::step;
 use crate::numbers::wide;
@@ -290,8 +291,8 @@ pub(crate) fn round(
     ensures { λ r. ⌜ Moved states (now (c .entry)) (r .classes) (r .moved) (r .count) ⌝ }
 {
     let mut d = [0u8; STATES];
-    let mut lead = [128u8; STATES];
-    let mut starts = [128u8; SLOTS];
+    let mut lead = [NO_STATE; STATES];
+    let mut starts = [NO_STATE; SLOTS];
     let mut moved = [0u8; STATES];
     let mut count = 0;
     let mut same = true;
