@@ -79,11 +79,12 @@ storing_waits_for_others() {
 
 # Several runs at a time on the same folder.
 storing_twice_at_once_is_whole() {
-  local run
+  local run runs=()
   cp -r "$work/many" "$work/twice"
   for run in 1 2 3 4; do
     ./rejudge --quiet --store --threads 2 "$work/twice" >"$work/twice-$run" &
+    runs+=($!)
   done
-  wait
+  wait "${runs[@]}"
   ! cut -f 8 "$work"/twice-[1-4] | grep -qv -e same -e new && diff -r "$work/twice" "$work/peace"
 }
