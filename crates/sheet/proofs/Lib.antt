@@ -2,6 +2,7 @@ pub mod Collect
 pub mod Fields
 pub mod Taking
 pub mod Going
+pub mod OnePass
 pub mod Good
 pub mod Arrows
 pub mod Chain

@@ -2,6 +2,7 @@ pub mod Words
 pub mod Numbers
 pub mod Records
 pub mod Phases
+pub mod OnePass
 pub mod Reading
 pub mod Label
 pub mod Table

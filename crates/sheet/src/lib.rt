@@ -2,6 +2,7 @@
 mod labels;
 mod lines;
 mod phases;
+mod quick;
 
 ghost use mathlib.Core.Path.{_≡_};
 ghost use Prim.Native.Nat.{_+_};
@@ -43,10 +44,24 @@ pub enum Flow {
     Other,
 }
 
+// What the line at a place says of arrows, with the place after it.
+pub enum Arrow {
+    One(u32, u32, usize),
+    Two(u32, u32, usize),
+    Not(u8),
+    Other,
+}
+
 // A record with the place after its line; or the number of a refusal.
 pub enum Taken {
     Took(u32, u32, u32, u32, usize),
     Stopped(u8),
+}
+
+// A number, with the place behind the byte that ends it; or something else stands there.
+pub enum Digits {
+    Read(u32, usize),
+    Other,
 }
 
 // What the reader says: the sizes and the start of a model; or a refusal.

@@ -59,7 +59,7 @@ fn record_of(line: &[u8], word: &[u8], limits: &[u32]) -> Record
 }
 
 // The position of an id among those given; their count where it is none of them.
-fn position(ids: &[u32], id: u32) -> usize
+pub(crate) fn position(ids: &[u32], id: u32) -> usize
     ensures { λ r. ⌜ r ≡ position (now (ids .entry)) id ⌝ }
 {
     let mut k = 0;

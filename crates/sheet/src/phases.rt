@@ -1,9 +1,9 @@
 // Runs of lines of one kind.
 use super::Acts;
+use super::Arrow;
 use super::Body;
 use super::Boxes;
 use super::Due;
-use super::Flow;
 use super::Flows;
 use super::Phase;
 use super::Record;
@@ -113,17 +113,14 @@ fn read_goes(
     let mut line = first;
     let mut k = 0;
     while k < total {
-        let due = Due::Go {
-            states: states as u32,
-            state: (k / actions) as u32,
-            action: (k % actions) as u32,
-        };
-        match take_due(text, at, due, ids) {
+        let state = k as u32 / actions as u32;
+        let action = k as u32 % actions as u32;
+        match super::quick::take_go(text, at, states as u32, state, action, ids) {
             Taken::Stopped(number) => {
                 return Phase::Refused { number, line };
             }
-            Taken::Took(_, _, state, output, place) => {
-                next[k] = state as u16;
+            Taken::Took(_, _, to, output, place) => {
+                next[k] = to as u16;
                 outputs[k] = output as u16;
                 at = place;
             }
@@ -156,34 +153,29 @@ fn read_flows(text: &[u8], from: usize, first: usize, ids: &[u32]) -> Flows
     let mut at = from;
     let mut line = first;
     while at < text.len() {
-        let Line::At { start, end, next } = text::line_from(text, at) else {
-            return Flows {
-                phase: Phase::Done { at, line },
-                arrows,
-            };
-        };
-        match super::lines::flow_line(&text[start..end], ids) {
-            Flow::Other => {
+        match super::quick::take_flow(text, at, ids) {
+            Arrow::Other => {
                 return Flows {
                     phase: Phase::Done { at, line },
                     arrows,
                 };
             }
-            Flow::Not(number) => {
+            Arrow::Not(number) => {
                 return Flows {
                     phase: Phase::Refused { number, line },
                     arrows,
                 };
             }
-            Flow::One(v, u) => {
+            Arrow::One(v, u, next) => {
                 arrows[v as usize * model::BOXES + u as usize] = true;
+                at = next;
             }
-            Flow::Two(v, u) => {
+            Arrow::Two(v, u, next) => {
                 arrows[v as usize * model::BOXES + u as usize] = true;
                 arrows[u as usize * model::BOXES + v as usize] = true;
+                at = next;
             }
         }
-        at = next;
         line += 1;
     }
     Flows {
@@ -211,11 +203,7 @@ fn read_views(
     let mut k = 0;
     while k < total {
         let position = k / states;
-        let due = Due::View {
-            id: ids[position],
-            state: (k % states) as u32,
-        };
-        match take_due(text, at, due, ids) {
+        match super::quick::take_view(text, at, ids[position], k as u32 % states as u32, ids) {
             Taken::Stopped(number) => {
                 return Phase::Refused { number, line };
             }

@@ -19,13 +19,16 @@ use Rattle.text.proofs.Parts.{field-here, field-past, field-over, end-h
 abbrev pub found : Number → ℕ → Field
 found n e = record { number = n; end = e }
 
--- a tab is no digit
-digit-tab : (limit v d : ℕ) → d ≡ 9 → digit limit v d ≡ Bad
+-- no byte below 48 is a digit, a tab and LF among them
+digit-low : (limit v d : ℕ) → d < 48 → digit limit v d ≡ Bad
 unfolding digit
-digit-tab limit v d e = simp (lt-ltb d 48 (omega arith))
+digit-low limit v d e = simp (lt-ltb d 48 e)
+
+pub digit-not-low : (limit v d w : ℕ) → digit limit v d ≡ Good w → d < 48 → ⊥
+digit-not-low limit v d w g e = let z : Good w ≡ Bad = sym g ∙ digit-low limit v d e in let y : _≡_ {A = ℕ} 0 1 = cc in omega arith
 
 pub digit-no-tab : (limit v d w : ℕ) → digit limit v d ≡ Good w → d ≡ 9 → ⊥
-digit-no-tab limit v d w g e = let z : Good w ≡ Bad = sym g ∙ digit-tab limit v d e in let y : _≡_ {A = ℕ} 0 1 = cc in omega arith
+digit-no-tab limit v d w g e = digit-not-low limit v d w g (omega arith)
 
 -- a number that has begun stays above 0
 pub digit-some : (limit v d w : ℕ) → digit limit v d ≡ Good w → 0 < v → 0 < w
@@ -129,6 +132,29 @@ unfolding digit
 digit-good limit v d h g =
     let e : 48 + d - 48 ≡ d = omega arith in
     rw e (simp (le-ltb (48 + d) 48 (omega arith), le-ltb 57 (48 + d) (omega arith), le-ltb limit (v * 10 + d) g))
+
+-- a byte by how far it stands behind the digit 0, where the difference wraps
+module _ (limit v d b : ℕ) (w : (d + 48) % 4294967296 ≡ b) where
+  pub digit-far : 9 < d → d < 4294967296 → Bad ≡ digit limit v b
+  unfolding digit
+  digit-far h g = go (decLt b 48)
+    where
+      go : Dec (b < 48) → Bad ≡ cond (ltb b 48 || ltb 57 b || ltb limit (v * 10 + (b - 48))) Bad (Good (v * 10 + (b - 48)))
+      go (yes k) = simp (lt-ltb b 48 k)
+      go (no k) = simp (le-ltb b 48 (omega arith), lt-ltb 57 b (omega arith))
+
+  module _ (h : d ≤ 9) where
+    near : b ≡ 48 + d
+    near = omega arith
+
+    pub digit-over : limit < v * 10 + d → Bad ≡ digit limit v b
+    unfolding digit
+    digit-over g =
+        let e : 48 + d - 48 ≡ d = omega arith in
+        rw (near, e) (simp (le-ltb (48 + d) 48 (omega arith), le-ltb 57 (48 + d) (omega arith), lt-ltb limit (v * 10 + d) g))
+
+    pub digit-within : v * 10 + d ≤ limit → Good (v * 10 + d) ≡ digit limit v b
+    digit-within g = sym (rw near (digit-good limit v d (omega arith) g))
 
 more-append : (limit : ℕ) (xs ys : List ℕ) (v : ℕ) → more limit (xs ++ ys) v ≡ onNumber (more limit xs v) (more limit ys) Bad
 unfolding more

@@ -53,9 +53,6 @@ module _ (s : List ℕ) (b i : ℕ) where
   pub end-past : i < length s → (getD s i 0 ≡ b → ⊥) → endOf b s i ≡ endOf b s (i + 1)
   end-past h e = rw (at s i h) (omega (arith, before-other _ b (drop (i + 1) s) (ne-eqb _ _ e)))
 
-  pub end-next : (j : ℕ) → j ≡ i + 1 → i < length s → (getD s i 0 ≡ b → ⊥) → endOf b s j ≡ endOf b s i
-  end-next j q h e = ap (λ (k : ℕ). endOf b s k) q ∙ sym (end-past h e)
-
   pub end-over : length s ≤ i → endOf b s i ≡ i
   unfolding before
   end-over h = rw (drop-of-length-le s {i = i} h) (omega arith)

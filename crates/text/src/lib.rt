@@ -43,32 +43,6 @@ pub fn find(s: &[u8], at: usize, b: u8) -> usize
     i
 }
 
-// Where the first LF stands, four bytes a turn, which spares half of the loop's own cost.
-fn line_end(text: &[u8], at: usize) -> usize
-    ensures { λ r. ⌜ r ≡ endOf 10 (now (text .entry)) at ⌝ }
-{
-    let mut i = at;
-    while i < text.len() {
-        if text.len() - i < 4 {
-            return find(text, i, 10);
-        }
-        if text[i] == 10 {
-            return i;
-        }
-        if text[i + 1] == 10 {
-            return i + 1;
-        }
-        if text[i + 2] == 10 {
-            return i + 2;
-        }
-        if text[i + 3] == 10 {
-            return i + 3;
-        }
-        i += 4;
-    }
-    i
-}
-
 // The line that starts at `at`.
 pub fn find_line(text: &[u8], at: usize) -> Line
     ensures { λ r. ⌜ r ≡ lineFrom (now (text .entry)) at ⌝ }
@@ -76,7 +50,7 @@ pub fn find_line(text: &[u8], at: usize) -> Line
     if text.len() <= at {
         return Line::End;
     }
-    let end = line_end(text, at);
+    let end = find(text, at, 10);
     Line::At {
         start: at,
         end,
@@ -134,16 +108,14 @@ pub fn starts(line: &[u8], word: &[u8]) -> bool
 }
 
 // The value with one digit more.
-fn grown(limit: u32, value: u32, byte: u8) -> Number
+pub fn grown(limit: u32, value: u32, byte: u8) -> Number
     ensures { λ r. ⌜ r ≡ digit limit value byte ⌝ }
 {
-    if byte < 48 {
+    let d = std::num::wrapping_sub_u32(byte as u32, 48);
+    if 9 < d {
         return Number::Bad;
     }
-    if 57 < byte {
-        return Number::Bad;
-    }
-    let v = (value as u64) * 10 + ((byte - 48) as u64);
+    let v = (value as u64) * 10 + (d as u64);
     if (limit as u64) < v {
         return Number::Bad;
     }

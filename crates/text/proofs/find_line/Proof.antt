@@ -10,10 +10,10 @@ returns : tie.Need-returns
 returns c = simp (le-ltb _ _ (c .if1 .taken))
 
 add-t4 : tie.Need-add-t4
-add-t4 c = omega (arith, end-within (c .before .before .before .args .text .now) 10 (c .before .before .before .args .at) (omega arith), c .line-end .ensures)
+add-t4 c = omega (arith, end-within (c .before .before .before .args .text .now) 10 (c .before .before .before .args .at) (omega arith), c .find .ensures)
 
 returns-2 : tie.Need-returns-2
-returns-2 c = simp (lt-ltb _ _ (c .before .if1 .left), c .line-end .ensures)
+returns-2 c = simp (lt-ltb _ _ (c .before .if1 .left), c .find .ensures)
 
 pub find-line-spec : {M : Type 1} → statement M
 find-line-spec = tie.close (tie.spec

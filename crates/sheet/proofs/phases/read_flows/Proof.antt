@@ -8,10 +8,8 @@ use native.Mathlib.Omega.{arith}
 use lib.ListN.{length, drop, replicate}
 use Rattle.model.specs.Limits.{BOXES, ARROWS}
 use Rattle.text.specs.Lines.{lines}
-use Rattle.text.proofs.Parts.{end-within, line-found, line-ended}
 use Rattle.sheet.specs.Phases.{selves, flows}
-use Rattle.sheet.proofs.Arrows.{selves-length, Flowing, over, other, bad, one, two, line-fits}
-use Rattle.sheet.proofs.Good.{flow-good}
+use Rattle.sheet.proofs.Arrows.{selves-length, Flowing, over, arrow-other, arrow-bad, arrow-one, arrow-two, one-known, two-known, place-is}
 use borrow.Author.Needs.{needs}
 use Rattle.sheet.proofs.phases.read_flows.Statement.{statement}
 use Rattle.sheet.proofs.phases.read_flows.Tie as tie
@@ -29,66 +27,53 @@ abbrev μ-loop : tie.MeasureT-loop
 loop-holds : tie.Need-loop-holds Inv-loop μ-loop
 loop-holds c = record { few-ids = c .before .before .before .pre .2; flowing = record { closed = c .before .before .before .pre .0; few = c .before .before .before .pre .1; room = ap length (c .self-arrows .ensures) ∙ selves-length (length (c .before .before .before .args .ids .now)) (replicate ARROWS false); rest = rw (c .self-arrows .ensures) } }
 
+take-flow-requires : tie.Need-take-flow-requires Inv-loop μ-loop
+take-flow-requires c κs = (c .before .loop .inv .flowing .closed, c .loop-test .taken, c .before .loop .inv .few-ids)
+
 returns : tie.Need-returns Inv-loop μ-loop
-returns c = (let z = line-ended (c .before .before .before .before .before .before .before .before .args .text .now) _ (sym (c .before .before .line-from .ensures) ∙ c .enum-told .given .1) in absurd (omega arith))
-
-sub-flow-line : tie.Need-sub-flow-line Inv-loop μ-loop
-sub-flow-line c = omega (arith, (line-found (c .before .before .before .before .before .before .before .before .before .args .text .now) (c .before .before .before .before .before .loop .at) (sym (c .before .before .before .line-from .ensures) ∙ c .before .start .given .1)))
-
-part-flow-line-start : tie.Need-part-flow-line-start Inv-loop μ-loop
-part-flow-line-start c = omega (arith, (line-found (c .before .before .before .before .before .before .before .before .before .args .text .now) (c .before .before .before .before .before .loop .at) (sym (c .before .before .before .line-from .ensures) ∙ c .before .start .given .1)))
-
-part-flow-line-end : tie.Need-part-flow-line-end Inv-loop μ-loop
-part-flow-line-end c = let p = (line-found (c .before .before .before .before .before .before .before .before .before .args .text .now) (c .before .before .before .before .before .loop .at) (sym (c .before .before .before .line-from .ensures) ∙ c .before .start .given .1)) in
-    omega (arith, p, end-within (c .before .before .before .before .before .before .before .before .before .args .text .now) 10 (c .before .before .before .before .before .loop .at) (omega (arith, p)))
+returns c = (arrow-other (c .before .before .before .before .loop .inv .flowing) (omega arith) (sym (c .before .before .take-flow .ensures) ∙ c .enum-told .given .1), c .before .before .before .before .loop .inv .flowing .few)
 
 returns-2 : tie.Need-returns-2 Inv-loop μ-loop
-returns-2 c = (other (c .before .before .before .before .before .before .before .before .before .loop .inv .flowing) (line-found (c .before .before .before .before .before .before .before .before .before .before .before .before .before .args .text .now) (c .before .before .before .before .before .before .before .before .before .loop .at) (sym (c .before .before .before .before .before .before .before .line-from .ensures) ∙ c .before .before .before .before .before .start .given .1)) (sym (c .before .before .flow-line .ensures) ∙ c .enum-told2 .given .1), c .before .before .before .before .before .before .before .before .before .loop .inv .flowing .few)
-
-returns-3 : tie.Need-returns-3 Inv-loop μ-loop
-returns-3 c = (bad (c .before .before .before .before .before .before .before .before .before .before .loop .inv .flowing) (line-found (c .before .before .before .before .before .before .before .before .before .before .before .before .before .before .args .text .now) (c .before .before .before .before .before .before .before .before .before .before .loop .at) (sym (c .before .before .before .before .before .before .before .before .line-from .ensures) ∙ c .before .before .before .before .before .before .start .given .1)) _ (sym (c .before .before .before .flow-line .ensures) ∙ c .before .number .given .1), tt)
+returns-2 c = (arrow-bad (c .before .before .before .before .before .loop .inv .flowing) (omega arith) _ (sym (c .before .before .before .take-flow .ensures) ∙ c .before .number .given .1), tt)
 
 mul-arrows : tie.Need-mul-arrows Inv-loop μ-loop
-mul-arrows c = omega (arith, flow-good (c .before .before .before .before .before .before .before .before .before .before .before .before .before .before .args .ids .now) _ _ _ (inl (sym (c .before .before .before .flow-line .ensures) ∙ c .before .v .given .1)), c .before .before .before .before .before .before .before .before .before .before .loop .inv .few-ids, c .before .before .before .before .before .before .before .before .before .before .loop .inv .flowing .room)
+mul-arrows c = omega (arith, one-known (c .before .before .before .before .before .before .before .before .before .args .ids .now) _ _ (sym (c .before .before .before .take-flow .ensures) ∙ c .before .v .given .1), c .before .before .before .before .before .loop .inv .few-ids, c .before .before .before .before .before .loop .inv .flowing .room)
 
 add-arrows : tie.Need-add-arrows Inv-loop μ-loop
-add-arrows c = omega (arith, flow-good (c .before .before .before .before .before .before .before .before .before .before .before .before .before .before .args .ids .now) _ _ _ (inl (sym (c .before .before .before .flow-line .ensures) ∙ c .before .v .given .1)), c .before .before .before .before .before .before .before .before .before .before .loop .inv .few-ids, c .before .before .before .before .before .before .before .before .before .before .loop .inv .flowing .room)
+add-arrows c = omega (arith, one-known (c .before .before .before .before .before .before .before .before .before .args .ids .now) _ _ (sym (c .before .before .before .take-flow .ensures) ∙ c .before .v .given .1), c .before .before .before .before .before .loop .inv .few-ids, c .before .before .before .before .before .loop .inv .flowing .room)
 
 array-write-arrows : tie.Need-array-write-arrows Inv-loop μ-loop
-array-write-arrows c = omega (arith, flow-good (c .before .before .before .before .before .before .before .before .before .before .before .before .before .before .args .ids .now) _ _ _ (inl (sym (c .before .before .before .flow-line .ensures) ∙ c .before .v .given .1)), c .before .before .before .before .before .before .before .before .before .before .loop .inv .few-ids, c .before .before .before .before .before .before .before .before .before .before .loop .inv .flowing .room)
+array-write-arrows c = omega (arith, one-known (c .before .before .before .before .before .before .before .before .before .args .ids .now) _ _ (sym (c .before .before .before .take-flow .ensures) ∙ c .before .v .given .1), c .before .before .before .before .before .loop .inv .few-ids, c .before .before .before .before .before .loop .inv .flowing .room)
 
 mul-arrows-2 : tie.Need-mul-arrows-2 Inv-loop μ-loop
-mul-arrows-2 c = omega (arith, flow-good (c .before .before .before .before .before .before .before .before .before .before .before .before .before .before .args .ids .now) _ _ _ (inr (sym (c .before .before .before .flow-line .ensures) ∙ c .before .v2 .given .1)), c .before .before .before .before .before .before .before .before .before .before .loop .inv .few-ids, c .before .before .before .before .before .before .before .before .before .before .loop .inv .flowing .room)
+mul-arrows-2 c = omega (arith, two-known (c .before .before .before .before .before .before .before .before .before .args .ids .now) _ _ (sym (c .before .before .before .take-flow .ensures) ∙ c .before .v2 .given .1), c .before .before .before .before .before .loop .inv .few-ids, c .before .before .before .before .before .loop .inv .flowing .room)
 
 add-arrows-2 : tie.Need-add-arrows-2 Inv-loop μ-loop
-add-arrows-2 c = omega (arith, flow-good (c .before .before .before .before .before .before .before .before .before .before .before .before .before .before .args .ids .now) _ _ _ (inr (sym (c .before .before .before .flow-line .ensures) ∙ c .before .v2 .given .1)), c .before .before .before .before .before .before .before .before .before .before .loop .inv .few-ids, c .before .before .before .before .before .before .before .before .before .before .loop .inv .flowing .room)
+add-arrows-2 c = omega (arith, two-known (c .before .before .before .before .before .before .before .before .before .args .ids .now) _ _ (sym (c .before .before .before .take-flow .ensures) ∙ c .before .v2 .given .1), c .before .before .before .before .before .loop .inv .few-ids, c .before .before .before .before .before .loop .inv .flowing .room)
 
 array-write-arrows-2 : tie.Need-array-write-arrows-2 Inv-loop μ-loop
-array-write-arrows-2 c = omega (arith, flow-good (c .before .before .before .before .before .before .before .before .before .before .before .before .before .before .args .ids .now) _ _ _ (inr (sym (c .before .before .before .flow-line .ensures) ∙ c .before .v2 .given .1)), c .before .before .before .before .before .before .before .before .before .before .loop .inv .few-ids, c .before .before .before .before .before .before .before .before .before .before .loop .inv .flowing .room)
+array-write-arrows-2 c = omega (arith, two-known (c .before .before .before .before .before .before .before .before .before .args .ids .now) _ _ (sym (c .before .before .before .take-flow .ensures) ∙ c .before .v2 .given .1), c .before .before .before .before .before .loop .inv .few-ids, c .before .before .before .before .before .loop .inv .flowing .room)
 
 mul-arrows-3 : tie.Need-mul-arrows-3 Inv-loop μ-loop
-mul-arrows-3 c = omega (arith, flow-good (c .before .before .before .before .before .before .before .before .before .before .before .before .before .before .args .ids .now) _ _ _ (inr (sym (c .before .before .before .flow-line .ensures) ∙ c .before .v2 .given .1)), c .before .before .before .before .before .before .before .before .before .before .loop .inv .few-ids, c .before .before .before .before .before .before .before .before .before .before .loop .inv .flowing .room)
+mul-arrows-3 c = omega (arith, two-known (c .before .before .before .before .before .before .before .before .before .args .ids .now) _ _ (sym (c .before .before .before .take-flow .ensures) ∙ c .before .v2 .given .1), c .before .before .before .before .before .loop .inv .few-ids, c .before .before .before .before .before .loop .inv .flowing .room)
 
 add-arrows-3 : tie.Need-add-arrows-3 Inv-loop μ-loop
-add-arrows-3 c = omega (arith, flow-good (c .before .before .before .before .before .before .before .before .before .before .before .before .before .before .args .ids .now) _ _ _ (inr (sym (c .before .before .before .flow-line .ensures) ∙ c .before .v2 .given .1)), c .before .before .before .before .before .before .before .before .before .before .loop .inv .few-ids, c .before .before .before .before .before .before .before .before .before .before .loop .inv .flowing .room)
+add-arrows-3 c = omega (arith, two-known (c .before .before .before .before .before .before .before .before .before .args .ids .now) _ _ (sym (c .before .before .before .take-flow .ensures) ∙ c .before .v2 .given .1), c .before .before .before .before .before .loop .inv .few-ids, c .before .before .before .before .before .loop .inv .flowing .room)
 
 array-write-arrows-3 : tie.Need-array-write-arrows-3 Inv-loop μ-loop
-array-write-arrows-3 c = (omega (arith, flow-good (c .before .before .before .before .before .before .before .before .before .before .before .before .before .before .args .ids .now) _ _ _ (inr (sym (c .before .before .before .flow-line .ensures) ∙ c .before .v2 .given .1)), c .before .before .before .before .before .before .before .before .before .before .loop .inv .few-ids, c .before .before .before .before .before .before .before .before .before .before .loop .inv .flowing .room))
-
-add-line : tie.Need-add-line Inv-loop μ-loop
-add-line c = omega (arith, line-fits (c .before .before .before .before .before .before .before .before .loop .inv .flowing) (line-found (c .before .before .before .before .before .before .before .before .before .before .before .before .args .text .now) (c .before .before .before .before .before .before .before .before .loop .at) (sym (c .before .before .before .before .before .before .line-from .ensures) ∙ c .before .before .before .before .start .given .1)))
+array-write-arrows-3 c = omega (arith, two-known (c .before .before .before .before .before .before .before .before .before .args .ids .now) _ _ (sym (c .before .before .before .take-flow .ensures) ∙ c .before .v2 .given .1), c .before .before .before .before .before .loop .inv .few-ids, c .before .before .before .before .before .loop .inv .flowing .room)
 
 loop-less : tie.Need-loop-less Inv-loop μ-loop
-loop-less c = omega (arith, (line-found (c .before .before .before .before .before .before .before .before .before .before .before .before .args .text .now) (c .before .before .before .before .before .before .before .before .loop .at) (sym (c .before .before .before .before .before .before .line-from .ensures) ∙ c .before .before .before .before .start .given .1)))
+loop-less c = ⊎-elim (λ w. rw (w .4) (omega (arith, place-is (c .before .before .before .before .before .before .before .args .ids .now) (c .before .before .before .before .before .before .before .args .text .now) (c .before .before .before .loop .at) _ (sym (c .before .take-flow .ensures) ∙ w .1 .given .1)))) (λ w. rw (w .4) (omega (arith, place-is (c .before .before .before .before .before .before .before .args .ids .now) (c .before .before .before .before .before .before .before .args .text .now) (c .before .before .before .loop .at) _ (sym (c .before .take-flow .ensures) ∙ w .1 .given .1)))) (c .match .came)
 
 loop-again : tie.Need-loop-again Inv-loop μ-loop
 loop-again c = ⊎-elim
-    (λ w. rw (w .3) (record { few-ids = c .before .before .before .before .before .before .before .before .loop .inv .few-ids; flowing = one (c .before .before .before .before .before .before .before .before .loop .inv .flowing) (line-found (c .before .before .before .before .before .before .before .before .before .before .before .before .args .text .now) (c .before .before .before .before .before .before .before .before .loop .at) (sym (c .before .before .before .before .before .before .line-from .ensures) ∙ c .before .before .before .before .start .given .1)) _ _ (sym (c .before .flow-line .ensures) ∙ w .1 .given .1) }))
-    (λ w. rw (w .3) (record { few-ids = c .before .before .before .before .before .before .before .before .loop .inv .few-ids; flowing = two (c .before .before .before .before .before .before .before .before .loop .inv .flowing) (line-found (c .before .before .before .before .before .before .before .before .before .before .before .before .args .text .now) (c .before .before .before .before .before .before .before .before .loop .at) (sym (c .before .before .before .before .before .before .line-from .ensures) ∙ c .before .before .before .before .start .given .1)) _ _ (sym (c .before .flow-line .ensures) ∙ w .1 .given .1) }))
-    (c .match2 .came)
+    (λ w. rw (w .3, w .4) (record { few-ids = c .before .before .before .loop .inv .few-ids; flowing = arrow-one (c .before .before .before .loop .inv .flowing) (omega arith) _ _ _ (sym (c .before .take-flow .ensures) ∙ w .1 .given .1) }))
+    (λ w. rw (w .3, w .4) (record { few-ids = c .before .before .before .loop .inv .few-ids; flowing = arrow-two (c .before .before .before .loop .inv .flowing) (omega arith) _ _ _ (sym (c .before .take-flow .ensures) ∙ w .1 .given .1) }))
+    (c .match .came)
 
-returns-4 : tie.Need-returns-4 Inv-loop μ-loop
-returns-4 c = (over (c .before .loop .inv .flowing) (omega arith), c .before .loop .inv .flowing .few)
+returns-3 : tie.Need-returns-3 Inv-loop μ-loop
+returns-3 c = (over (c .before .loop .inv .flowing) (omega arith), c .before .loop .inv .flowing .few)
 
 pub read-flows-spec : {M : Type 1} → statement M
 read-flows-spec =
@@ -98,15 +83,11 @@ read-flows-spec =
     μ-loop
     (λ c κs. search needs)
     loop-holds
-    (λ c κs. search needs) (λ c. search needs) (λ c. search needs)
-    returns
-    sub-flow-line
-    part-flow-line-start
-    part-flow-line-end
-    (λ c κs. search needs) (λ c. search needs)
-    returns-2
+    take-flow-requires
     (λ c. search needs)
-    returns-3
+    returns
+    (λ c. search needs)
+    returns-2
     (λ c. search needs) (λ c. search needs)
     mul-arrows
     (λ c. search needs)
@@ -122,7 +103,7 @@ read-flows-spec =
     (λ c. search needs)
     add-arrows-3
     array-write-arrows-3
-    add-line
+    (λ c. search needs)
     loop-less
     loop-again
-    returns-4)
+    returns-3)

@@ -3,7 +3,7 @@ use Prim.Native.Nat.{ℕ, _<_, _≤_, _-_, _/_, _%_}
 use mathlib.Core.Path.{_≡_, refl, sym, _∙_}
 use mathlib.Core.List.{List}
 use native.Mathlib.Omega.{arith}
-use native.Mathlib.Nat.{div-le-self, mod-le, mul-le-mul}
+use native.Mathlib.Nat.{mul-le-mul}
 use lib.ListN.{length, drop, set, length-set}
 use Rattle.model.specs.Limits.{STATES, BOXES, NEXT-ENTRIES, OUTPUT-ENTRIES}
 use Rattle.text.specs.Lines.{lines}
@@ -55,23 +55,20 @@ loop-holds c = record {
   going = start (due _ _) kept _ _ _ _ _ (c .before .before .before .before .pre .0 .0) (c .before .before .before .before .pre .0 .1);
 }
 
-cast-t21 : tie.Need-cast-t21 Inv-loop μ-loop
-cast-t21 c = omega (arith, div-le-self (c .before .loop .k) (c .before .before .before .before .before .before .args .actions))
-
-cast-t23 : tie.Need-cast-t23 Inv-loop μ-loop
-cast-t23 c = omega (arith, mod-le (c .before .loop .k) (c .before .before .before .before .before .before .args .actions))
+take-go-requires : tie.Need-take-go-requires Inv-loop μ-loop
+take-go-requires c κs = (c .before .loop .inv .going .closed, c .before .loop .inv .few-ids)
 
 returns : tie.Need-returns Inv-loop μ-loop
-returns c = (stopped (c .before .before .before .before .before .loop .inv .going) (omega arith) _ (sym (c .before .before .before .take-due .ensures) ∙ c .before .number .given .1), tt)
+returns c = (stopped (c .before .before .before .before .before .loop .inv .going) (omega arith) _ (sym (c .before .before .before .take-go .ensures) ∙ c .before .number .given .1), tt)
 
 cast-next : tie.Need-cast-next Inv-loop μ-loop
-cast-next c = omega (arith, go-good _ _ _ _ (said (c .before .before .before .before .before .loop .inv .going) (omega arith) (sym (c .before .before .before .take-due .ensures) ∙ c .before .state .given .1)))
+cast-next c = omega (arith, go-good _ _ _ _ (said (c .before .before .before .before .before .loop .inv .going) (omega arith) (sym (c .before .before .before .take-go .ensures) ∙ c .before .to .given .1)))
 
 cast-outputs : tie.Need-cast-outputs Inv-loop μ-loop
-cast-outputs c = omega (arith, go-good _ _ _ _ (said (c .before .before .before .before .before .loop .inv .going) (omega arith) (sym (c .before .before .before .take-due .ensures) ∙ c .before .state .given .1)))
+cast-outputs c = omega (arith, go-good _ _ _ _ (said (c .before .before .before .before .before .loop .inv .going) (omega arith) (sym (c .before .before .before .take-go .ensures) ∙ c .before .to .given .1)))
 
 add-line : tie.Need-add-line Inv-loop μ-loop
-add-line c = omega (arith, line-fits (c .before .before .before .before .before .loop .inv .going) (omega arith) (sym (c .before .before .before .take-due .ensures) ∙ c .before .state .given .1))
+add-line c = omega (arith, line-fits (c .before .before .before .before .before .loop .inv .going) (omega arith) (sym (c .before .before .before .take-go .ensures) ∙ c .before .to .given .1))
 
 loop-again : tie.Need-loop-again Inv-loop μ-loop
 loop-again c = record {
@@ -83,7 +80,7 @@ loop-again c = record {
   outputs-room = c .before .before .before .before .before .loop .inv .outputs-room;
   next-length = simp length-set (c .before .before .before .before .before .loop .inv .next-length);
   outputs-length = simp length-set (c .before .before .before .before .before .loop .inv .outputs-length);
-  going = took (c .before .before .before .before .before .loop .inv .going) (omega arith) (sym (c .before .before .before .take-due .ensures) ∙ c .before .state .given .1);
+  going = took (c .before .before .before .before .before .loop .inv .going) (omega arith) (sym (c .before .before .before .take-go .ensures) ∙ c .before .to .given .1);
 }
 
 returns-2 : tie.Need-returns-2 Inv-loop μ-loop
@@ -97,11 +94,9 @@ read-goes-spec =
     μ-loop
     mul-total
     loop-holds
-    (λ c. search needs) (λ c. search needs)
-    cast-t21
-    (λ c. search needs)
-    cast-t23
-    (λ c κs. search needs) (λ c. search needs) (λ c. search needs) (λ c. search needs)
+    (λ c. search needs) (λ c. search needs) (λ c. search needs) (λ c. search needs) (λ c. search needs) (λ c. search needs) (λ c. search needs)
+    take-go-requires
+    (λ c. search needs) (λ c. search needs) (λ c. search needs)
     returns
     (λ c. search needs)
     cast-next

@@ -3,7 +3,7 @@ use Prim.Native.Nat.{ℕ, _<_, _≤_, _-_, _*_, _/_, _%_}
 use mathlib.Core.Path.{_≡_, refl, sym, _∙_}
 use mathlib.Core.List.{List}
 use native.Mathlib.Omega.{arith}
-use native.Mathlib.Nat.{div-le-self, div-lt-iff-lt-mul, mod-le, mul-le-mul}
+use native.Mathlib.Nat.{div-le-self, div-lt-iff-lt-mul, mul-le-mul}
 use lib.ListN.{length, getD, drop, set, length-set}
 use Rattle.model.specs.Limits.{BOXES, VIEW-ENTRIES}
 use Rattle.text.specs.Lines.{lines}
@@ -51,26 +51,26 @@ loop-holds c = record {
   going = start (due (c .before .before .before .args .ids .now) _) kept _ _ _ _ _ (c .before .before .before .pre .0 .0) (c .before .before .before .pre .0 .1);
 }
 
-mul-t18 : tie.Need-mul-t18 Inv-loop μ-loop
-mul-t18 c = omega (arith, div-le-self (c .before .loop .k) (c .before .before .before .before .before .args .states))
+mul-take-view : tie.Need-mul-take-view Inv-loop μ-loop
+mul-take-view c = omega (arith, div-le-self (c .before .loop .k) (c .before .before .before .before .before .args .states))
 
-shared-slice-read-t20 : tie.Need-shared-slice-read-t20 Inv-loop μ-loop
-shared-slice-read-t20 c = div-lt-iff-lt-mul (c .before .before .loop .inv .some) .1 (omega arith)
-
-cast-t22 : tie.Need-cast-t22 Inv-loop μ-loop
-cast-t22 c = omega (arith, mod-le (c .before .before .loop .k) (c .before .before .before .before .before .before .args .states))
+shared-slice-read-take-view : tie.Need-shared-slice-read-take-view Inv-loop μ-loop
+shared-slice-read-take-view c = div-lt-iff-lt-mul (c .before .before .loop .inv .some) .1 (omega arith)
 
 same-length : tie.Need-same-length Inv-loop μ-loop
 same-length c = search needs
 
+take-view-requires : tie.Need-take-view-requires Inv-loop μ-loop
+take-view-requires c κs = (c .before .before .loop .inv .going .closed, c .before .before .loop .inv .few-ids)
+
 returns : tie.Need-returns Inv-loop μ-loop
-returns c = (stopped (c .before .before .before .before .before .before .loop .inv .going) (omega arith) _ (sym (c .before .before .before .take-due .ensures) ∙ c .before .number .given .1), tt)
+returns c = (stopped (c .before .before .before .before .before .before .loop .inv .going) (omega arith) _ (sym (c .before .before .before .take-view .ensures) ∙ c .before .number .given .1), tt)
 
 cast-views : tie.Need-cast-views Inv-loop μ-loop
-cast-views c = omega (arith, view-good _ _ _ (said (c .before .before .before .before .before .before .loop .inv .going) (omega arith) (sym (c .before .before .before .take-due .ensures) ∙ c .before .class .given .1)))
+cast-views c = omega (arith, view-good _ _ _ (said (c .before .before .before .before .before .before .loop .inv .going) (omega arith) (sym (c .before .before .before .take-view .ensures) ∙ c .before .class .given .1)))
 
 add-line : tie.Need-add-line Inv-loop μ-loop
-add-line c = omega (arith, line-fits (c .before .before .before .before .before .before .loop .inv .going) (omega arith) (sym (c .before .before .before .take-due .ensures) ∙ c .before .class .given .1))
+add-line c = omega (arith, line-fits (c .before .before .before .before .before .before .loop .inv .going) (omega arith) (sym (c .before .before .before .take-view .ensures) ∙ c .before .class .given .1))
 
 loop-again : tie.Need-loop-again Inv-loop μ-loop
 loop-again c = record {
@@ -80,7 +80,7 @@ loop-again c = record {
   few-ids = c .before .before .before .before .before .before .loop .inv .few-ids;
   room = c .before .before .before .before .before .before .loop .inv .room;
   same-length = simp length-set (c .before .before .before .before .before .before .loop .inv .same-length);
-  going = took (c .before .before .before .before .before .before .loop .inv .going) (omega arith) (sym (c .before .before .before .take-due .ensures) ∙ c .before .class .given .1);
+  going = took (c .before .before .before .before .before .before .loop .inv .going) (omega arith) (sym (c .before .before .before .take-view .ensures) ∙ c .before .class .given .1);
 }
 
 returns-2 : tie.Need-returns-2 Inv-loop μ-loop
@@ -95,11 +95,11 @@ read-views-spec =
     mul-total
     loop-holds
     (λ c. search needs)
-    mul-t18
-    shared-slice-read-t20
+    mul-take-view
+    shared-slice-read-take-view
+    (λ c. search needs) (λ c. search needs) (λ c. search needs)
+    take-view-requires
     (λ c. search needs)
-    cast-t22
-    (λ c κs. search needs) (λ c. search needs)
     same-length
     returns
     (λ c. search needs)
