@@ -27,6 +27,7 @@ bool open_standard_descriptors() noexcept {
 
 int run(const char *name, int (*program)(const std::vector<std::string> &words), int count, char **words) {
     if (!open_standard_descriptors()) {
+        std::fprintf(stderr, "%s: /dev/null can't be opened\n", name);
         return 2;
     }
     try {

@@ -65,6 +65,12 @@ links_that_lead_nowhere_are_told() {
   )
 }
 
+# A folder that can't be read to its end stops nothing else.
+folders_that_fail_are_told() {
+  SITES_CALL=readdir with_faults rejudge --quiet examples examples/gateway.sheet >"$work/table"
+  [[ $? == 2 ]] && diff "$work/table" <(unread examples 'Input/output error' && row examples/gateway.sheet "${good[@]}" same -)
+}
+
 # Names with controls of one byte and of two, and with bytes that are no UTF-8; the scripts write them as the table does.
 odd_names_stay_on_their_line() {
   local in name

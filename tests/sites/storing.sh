@@ -140,6 +140,19 @@ storing_on_a_full_disk_is_whole() {
     [[ $(<"$in/0.verdict") == 'an old verdict' && $(ls "$in") == $'0.sheet\n0.verdict\n1.sheet' ]]
 }
 
+# Whichever call fails, the old verdict stays, and nothing is left beside it.
+storing_tells_each_fault() {
+  local in call
+  in=$(room faults)
+  cp examples/gateway.sheet "$in"
+  echo 'an old verdict' >"$in/gateway.verdict"
+  for call in write fsync flock fchmod rename; do
+    SITES_CALL=$call with_faults rejudge --quiet --store "$in" >"$work/table"
+    [[ $? == 2 && $(<"$in/gateway.verdict") == 'an old verdict' && $(ls "$in") == $'gateway.sheet\ngateway.verdict' ]] &&
+      diff "$work/table" <(row "$in/gateway.sheet" "${good[@]}" unwritten "Input/output error, -an old verdict, $gateway_lines") || { echo "sites: $call" && return 1; }
+  done
+}
+
 # Only root can give files to others.
 storing_keeps_mode_and_owner() {
   local in mode

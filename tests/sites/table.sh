@@ -69,7 +69,7 @@ controls_in_a_stored_verdict_are_escaped() {
 memory_that_is_short_is_told() { # PROGRAM [WORD...]
   local failing status=2
   for ((failing = 1; status == 2; failing++)); do
-    SITES_FAILING=$failing with_preloaded memory "target/sites/$1" "${@:2}" >/dev/null 2>"$work/said"
+    SITES_ALLOCATION=$failing with_faults "$@" >/dev/null 2>"$work/said"
     status=$?
     [[ $status == 0 || $(<"$work/said") == "$1: out of memory" ]] || { echo "sites: $1, allocation $failing: status $status" && cat "$work/said" && return 1; }
   done
