@@ -231,9 +231,9 @@ one_file_under_two_names_has_one_table() {
   cp examples/gateway.sheet "$in/linked.sheet"
   ln -s first.verdict "$in/linked.verdict"
   rejudges 0 "$(
-    for k in {1..40}; do row "$in/a/./$k.sheet" "${good[@]}" new -; done | sort
-    for k in {1..40}; do row "$in/a/$k.sheet" "${good[@]}" same -; done | sort
-    for k in {1..40}; do row "$in/b/$k.sheet" "${good[@]}" same -; done | sort
+    for k in {1..40}; do row "$in/a/./$k.sheet" "${good[@]}" new -; done | LC_ALL=C sort
+    for k in {1..40}; do row "$in/a/$k.sheet" "${good[@]}" same -; done | LC_ALL=C sort
+    for k in {1..40}; do row "$in/b/$k.sheet" "${good[@]}" same -; done | LC_ALL=C sort
     row "$in/first.sheet" "${good[@]}" new -
     row "$in/linked.sheet" "${good[@]}" same -
   )" --store --threads 8 "${names[@]}" "$in/first.sheet" "$in/linked.sheet"
