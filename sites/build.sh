@@ -1,6 +1,5 @@
-# shellcheck shell=bash
-# Sourced by ./rejudge and ./draw: builds their programs where these are older than what they are made from.
-top=$(dirname "$(readlink -f "${BASH_SOURCE[0]}")")/..
+# shellcheck shell=bash disable=SC2154
+# Sourced by ./rejudge and ./draw, which know the repository's top: builds their programs where these are older than what they are made from.
 source "$top/tools/compilers.sh"
 
 # Whether a program is missing, or older than some source or than the library.

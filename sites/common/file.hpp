@@ -1,8 +1,11 @@
 // Files as a site has them: any of them may be missing, huge, shut, or no file at all.
 #pragma once
 
+#include <compare>
 #include <cstddef>
+#include <optional>
 #include <string>
+#include <sys/stat.h>
 
 namespace sites {
 
@@ -12,7 +15,8 @@ inline constexpr std::size_t sheet_reading = 32'769;
 // An open file, shut at the end.
 class Descriptor {
 public:
-    Descriptor(const std::string &name, int flags);
+    // The mode is that of a file which is made.
+    Descriptor(const std::string &name, int flags, mode_t mode = 0);
     Descriptor(Descriptor &&other) noexcept;
     Descriptor &operator=(Descriptor &&) = delete;
     ~Descriptor();
@@ -24,6 +28,18 @@ private:
     int number_;
 };
 
+// Which file it is, under any of its names.
+struct Identity {
+    dev_t device{};
+    ino_t number{};
+
+    friend auto operator<=>(const Identity &, const Identity &) = default;
+};
+
+Identity identity(const struct stat &about) noexcept;
+// Links are followed; nothing where the file can't be looked at, and errno says why.
+std::optional<Identity> identity(const std::string &name) noexcept;
+
 // The problem is empty where the bytes were read.
 struct Reading {
     std::string bytes{};
@@ -31,8 +47,11 @@ struct Reading {
     bool missing = false;
 };
 
-// The first bytes of a file, at most so many.
+// The first bytes of a file, at most so many. A link that leads nowhere isn't missing.
 Reading read_file(const std::string &name, std::size_t most);
+
+// What is left of an open file, at most so many bytes.
+Reading read_open(int file, std::size_t most);
 
 // What errno says, in words.
 std::string last_problem();

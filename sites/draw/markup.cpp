@@ -18,6 +18,14 @@ std::string marked_up(std::string_view text) {
         case '"':
             result += "&quot;";
             break;
+        // dot reads references first and then expands \N, so it takes two for one that stays.
+        case '\\':
+            result += "&#92;&#92;";
+            break;
+        // A plain one may be the start of an end of CDATA, for which the parser waits in vain.
+        case ']':
+            result += "&#93;";
+            break;
         // Plain ones would be dropped, and a label may be all spaces.
         case ' ':
         case '\t':

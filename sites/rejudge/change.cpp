@@ -22,7 +22,8 @@ void add_missing(std::string &result, char mark, std::string_view text, std::str
     const auto others = lines_of(other);
     for (const std::string_view each : lines_of(text)) {
         if (std::find(others.begin(), others.end(), each) == others.end()) {
-            std::string shown{each};
+            // Nothing after a mark would look like no change.
+            std::string shown{each.empty() ? "an empty line" : each};
             std::replace(shown.begin(), shown.end(), '\t', ' ');
             result.append(result.empty() ? "" : ", ").append(1, mark).append(escaped(shown));
         }

@@ -4,7 +4,6 @@
 #include "../common/file.hpp"
 #include "../common/text.hpp"
 #include "change.hpp"
-#include "store.hpp"
 
 #include <zarpalume.hpp>
 
@@ -61,7 +60,7 @@ void describe(Finding &finding, const zarpalume::Verdict &verdict, std::string_v
     finding.counts = counts(verdict, Drawing{sheet});
 }
 
-void compare(Finding &finding, std::string_view verdict, bool store) {
+void compare(Finding &finding, std::string_view verdict, const std::optional<Store> &store) {
     const std::string name = verdict_name(finding.path);
     // One byte more than any verdict has, so that a longer file can't look the same.
     const Reading stored = read_file(name, ZARPALUME_VERDICT_BYTES);
@@ -73,6 +72,9 @@ void compare(Finding &finding, std::string_view verdict, bool store) {
         return;
     } else if (stored.bytes == verdict) {
         finding.stored = Stored::same;
+        if (store) {
+            store->tidy(name);
+        }
         return;
     } else {
         finding.stored = Stored::changed;
@@ -81,7 +83,7 @@ void compare(Finding &finding, std::string_view verdict, bool store) {
     if (!store) {
         return;
     }
-    if (const std::string problem = replace_file(name, verdict); !problem.empty()) {
+    if (const std::string problem = store->replace(name, verdict); !problem.empty()) {
         finding.stored = Stored::unwritten;
         finding.change = finding.change == "-" ? problem : problem + ", " + finding.change;
     }
@@ -97,7 +99,7 @@ std::string fields(const std::optional<Counts> &counts) {
 
 } // namespace
 
-Finding find(const Name &name, bool store) {
+Finding find(const Name &name, const std::optional<Store> &store) {
     if (name.kind != Name::Kind::sheet) {
         return {.path = name.path, .outcome = name.kind == Name::Kind::skipped ? Outcome::skipped : Outcome::unread, .place = name.reason};
     }

@@ -2,6 +2,7 @@
 #pragma once
 
 #include "names.hpp"
+#include "store.hpp"
 
 #include <cstddef>
 #include <cstdint>
@@ -33,8 +34,8 @@ struct Finding {
     std::string change = "-";
 };
 
-// Judges the sheet, if it is one, and compares the verdict with the stored one; may store it.
-Finding find(const Name &name, bool store);
+// Judges the sheet, if it is one, and compares the verdict with the stored one; stores it where there is a store.
+Finding find(const Name &name, const std::optional<Store> &store);
 
 // The table's line, with its end.
 std::string line(const Finding &finding);

@@ -1,19 +1,64 @@
 #include "names.hpp"
 
 #include <algorithm>
-#include <sys/stat.h>
-#include <system_error>
+#include <cerrno>
+#include <dirent.h>
+#include <memory>
+#include <string_view>
 
 namespace sites {
 
-namespace fs = std::filesystem;
+namespace {
+
+struct Shut {
+    void operator()(DIR *folder) const noexcept { ::closedir(folder); }
+};
+
+// The library's own walk would abort where memory is short.
+using Folder = std::unique_ptr<DIR, Shut>;
+
+// Nothing at the end, and where there is a problem: errno is 0 then, or not.
+const dirent *next_entry(const Folder &folder) {
+    errno = 0;
+    return ::readdir(folder.get());
+}
+
+bool is_sheet(std::string_view path) {
+    return path.ends_with(".sheet");
+}
+
+std::string below(const std::string &folder, const std::string &name) {
+    return folder + (folder.ends_with('/') ? "" : "/") + name;
+}
+
+// Not every file system says at once what an entry is.
+unsigned char type_of(const dirent &entry, const std::string &path) {
+    struct stat about {};
+    if (entry.d_type != DT_UNKNOWN) {
+        return entry.d_type;
+    }
+    if (::lstat(path.c_str(), &about) == 0) {
+        return IFTODT(about.st_mode);
+    }
+    // What is gone by now was no folder of ours.
+    return errno == ENOENT ? DT_REG : DT_UNKNOWN;
+}
+
+} // namespace
 
 void Search::add(const std::string &given) {
-    std::error_code none_of_it;
-    if (fs::is_directory(given, none_of_it)) {
+    // The system would take the part before the zero byte for the name.
+    if (given.find('\0') != std::string::npos) {
+        add_unread(given, "a name with a zero byte: such a list wants --null");
+        return;
+    }
+    struct stat about {};
+    if (::stat(given.c_str(), &about) != 0) {
+        add_unread(given, last_problem());
+    } else if (S_ISDIR(about.st_mode)) {
         walk(given);
     } else {
-        names_.push_back({given});
+        add_sheet(given, about);
     }
 }
 
@@ -25,52 +70,78 @@ std::vector<Name> Search::found() {
     return std::move(names_);
 }
 
-void Search::walk(fs::path top) {
-    std::vector<fs::path> folders{std::move(top)};
+// A sheet is known by its file before anything is stored.
+void Search::add_sheet(const std::string &path, const struct stat &about) {
+    names_.push_back({.path = path, .identity = identity(about)});
+}
+
+void Search::add_unread(const std::string &path, const std::string &reason) {
+    names_.push_back({.path = path, .kind = Name::Kind::unread, .reason = reason});
+}
+
+void Search::walk(const std::string &top) {
+    std::vector<std::string> folders{top};
     while (!folders.empty()) {
-        const fs::path folder = std::move(folders.back());
+        const std::string folder = std::move(folders.back());
         folders.pop_back();
-        visited_.insert(identity(folder));
-        std::error_code error;
-        for (fs::directory_iterator each{folder, error}; !error && each != fs::directory_iterator{}; each.increment(error)) {
-            look_at(*each, folders);
+        look_into(folder, folders);
+    }
+}
+
+void Search::look_into(const std::string &folder, std::vector<std::string> &folders) {
+    if (const auto visited = identity(folder)) {
+        visited_.insert(*visited);
+    }
+    const Folder open{::opendir(folder.c_str())};
+    if (!open) {
+        add_unread(folder, last_problem());
+        return;
+    }
+    while (const dirent *entry = next_entry(open)) {
+        const std::string name = entry->d_name;
+        if (name != "." && name != "..") {
+            const std::string path = below(folder, name);
+            look_at(path, type_of(*entry, path), folders);
         }
-        if (error) {
-            names_.push_back({folder.native(), Name::Kind::unread, error.message()});
-        }
+    }
+    if (errno != 0) {
+        add_unread(folder, last_problem());
     }
 }
 
 // Links to folders are not followed, so that a walk always ends.
-void Search::look_at(const fs::directory_entry &entry, std::vector<fs::path> &folders) {
-    std::error_code gone;
-    const bool folder = entry.is_directory(gone);
-    if (folder && entry.is_symlink(gone)) {
-        links_.push_back(entry.path());
-    } else if (folder) {
-        folders.push_back(entry.path());
-    } else if (entry.path().native().ends_with(".sheet")) {
-        names_.push_back({entry.path().native()});
+void Search::look_at(const std::string &path, unsigned char type, std::vector<std::string> &folders) {
+    if (type == DT_DIR) {
+        folders.push_back(path);
+    } else if (type == DT_LNK || type == DT_UNKNOWN || is_sheet(path)) {
+        look_behind(path);
+    }
+}
+
+// What can't be looked at may be a folder with sheets in it.
+void Search::look_behind(const std::string &path) {
+    struct stat about {};
+    if (::stat(path.c_str(), &about) != 0) {
+        add_unread(path, last_problem());
+    } else if (S_ISDIR(about.st_mode)) {
+        links_.push_back(path);
+    } else if (is_sheet(path)) {
+        add_sheet(path, about);
     }
 }
 
 // Only after all walks is it known which links lead to a folder that was looked into.
 void Search::tell_links() {
-    for (const fs::path &link : links_) {
-        if (visited_.contains(identity(link))) {
-            names_.push_back({link.native(), Name::Kind::skipped, "a link to a folder that is looked into anyway"});
+    for (const std::string &link : links_) {
+        const auto folder = identity(link);
+        if (!folder) {
+            add_unread(link, last_problem());
+        } else if (visited_.contains(*folder)) {
+            names_.push_back({.path = link, .kind = Name::Kind::skipped, .reason = "a link to a folder that is looked into anyway"});
         } else {
-            names_.push_back({link.native(), Name::Kind::unread, "a link to another folder is not followed: name it as well"});
+            add_unread(link, "a link to another folder is not followed: name it as well");
         }
     }
-}
-
-Search::Identity Search::identity(const fs::path &folder) {
-    struct stat about {};
-    if (::stat(folder.c_str(), &about) != 0) {
-        return {};
-    }
-    return {about.st_dev, about.st_ino};
 }
 
 } // namespace sites

@@ -1,22 +1,24 @@
 // Which sheets to judge: the files that were named, and each *.sheet below the folders that were named.
 #pragma once
 
+#include "../common/file.hpp"
+
 #include <cstdint>
-#include <filesystem>
 #include <set>
 #include <string>
-#include <utility>
 #include <vector>
 
 namespace sites {
 
 struct Name {
-    // Skipped: a link to a folder that is looked into anyway. Unread: what could not be looked into.
+    // Skipped: a link to a folder that is looked into anyway. Unread: what could not be looked at.
     enum class Kind : std::uint8_t { sheet, skipped, unread };
 
     std::string path;
     Kind kind = Kind::sheet;
+    // Why it is no sheet, and which file it is if it is one.
     std::string reason{};
+    Identity identity{};
 };
 
 class Search {
@@ -27,15 +29,16 @@ public:
     std::vector<Name> found();
 
 private:
-    using Identity = std::pair<std::uint64_t, std::uint64_t>;
-
-    void walk(std::filesystem::path top);
-    void look_at(const std::filesystem::directory_entry &entry, std::vector<std::filesystem::path> &folders);
+    void add_sheet(const std::string &path, const struct stat &about);
+    void add_unread(const std::string &path, const std::string &reason);
+    void walk(const std::string &top);
+    void look_into(const std::string &folder, std::vector<std::string> &folders);
+    void look_at(const std::string &path, unsigned char type, std::vector<std::string> &folders);
+    void look_behind(const std::string &path);
     void tell_links();
-    static Identity identity(const std::filesystem::path &folder);
 
     std::vector<Name> names_;
-    std::vector<std::filesystem::path> links_;
+    std::vector<std::string> links_;
     std::set<Identity> visited_;
 };
 

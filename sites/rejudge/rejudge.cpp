@@ -1,15 +1,19 @@
 // rejudge: judges every sheet that it is given again, and says what is needed, what was drawn, and what changed.
+#include "../common/file.hpp"
+#include "../common/program.hpp"
+#include "../common/text.hpp"
 #include "finding.hpp"
 #include "names.hpp"
 #include "progress.hpp"
+#include "store.hpp"
 #include "summary.hpp"
+#include "turns.hpp"
 #include "workers.hpp"
 
 #include <algorithm>
 #include <charconv>
 #include <chrono>
 #include <cstdio>
-#include <iostream>
 #include <optional>
 #include <string>
 #include <string_view>
@@ -59,25 +63,23 @@ std::optional<Options> read_options(const std::vector<std::string> &words) {
     return options;
 }
 
-std::vector<sites::Name> find_names(const Options &options) {
-    sites::Search search;
-    for (const std::string &name : options.names) {
-        search.add(name);
-    }
-    if (options.names.empty()) {
-        for (std::string name; std::getline(std::cin, name, options.name_end);) {
-            if (!name.empty()) {
-                search.add(name);
-            }
+// Where the list can't be read to its end, its last name may be cut: none of it is taken.
+std::string add_list(sites::Search &search, char name_end) {
+    const sites::Reading list = sites::read_open(STDIN_FILENO, std::string::npos);
+    for (std::string_view rest = list.bytes; !rest.empty();) {
+        if (const std::string_view name = sites::take_line(rest, name_end); !name.empty()) {
+            search.add(std::string{name});
         }
     }
-    return search.found();
+    return list.problem;
 }
 
 // Writes each line as soon as it and all before it are there.
 sites::Summary judge_all(const std::vector<sites::Name> &names, const Options &options) {
     std::vector<sites::Finding> findings(names.size());
-    sites::Workers workers{names.size(), options.threads, [&](std::size_t k) { findings[k] = sites::find(names[k], options.store); }};
+    const auto store = options.store ? std::optional<sites::Store>{names} : std::nullopt;
+    sites::Workers workers{options.store ? sites::turns(names) : sites::Turns(names.size()), options.threads,
+                           [&](std::size_t k) { findings[k] = sites::find(names[k], store); }};
     sites::Progress progress{names.size()};
     sites::Summary summary;
     for (std::size_t k = 0; k < names.size(); k++) {
@@ -95,16 +97,24 @@ sites::Summary judge_all(const std::vector<sites::Name> &names, const Options &o
     return summary;
 }
 
-} // namespace
-
-int main(int count, char **words) {
-    const auto options = read_options({words + 1, words + count});
+int rejudge(const std::vector<std::string> &words) {
+    const auto options = read_options(words);
     if (!options || (options->names.empty() && ::isatty(STDIN_FILENO) == 1)) {
         std::fputs(usage, stderr);
         return 2;
     }
-    const sites::Summary summary = judge_all(find_names(*options), *options);
-    if (std::fflush(stdout) != 0 || std::ferror(stdout) != 0) {
+    sites::Search search;
+    for (const std::string &name : options->names) {
+        search.add(name);
+    }
+    if (options->names.empty()) {
+        if (const std::string problem = add_list(search, options->name_end); !problem.empty()) {
+            std::fprintf(stderr, "rejudge: the list of names could not be read: %s\n", problem.c_str());
+            return 2;
+        }
+    }
+    const sites::Summary summary = judge_all(search.found(), *options);
+    if (!sites::end_output()) {
         std::fputs("rejudge: the table could not be written\n", stderr);
         return 2;
     }
@@ -112,4 +122,10 @@ int main(int count, char **words) {
         std::fputs(summary.text().c_str(), stderr);
     }
     return summary.status();
+}
+
+} // namespace
+
+int main(int count, char **words) {
+    return sites::run("rejudge", rejudge, count, words);
 }

@@ -20,17 +20,9 @@ std::size_t stack_size() {
 
 } // namespace
 
-Workers::Workers(std::size_t count, std::size_t threads, std::function<void(std::size_t)> work)
-    : work_{std::move(work)}, finished_(count, false) {
-    pthread_attr_t attributes;
-    const bool sized = pthread_attr_init(&attributes) == 0 && pthread_attr_setstacksize(&attributes, stack_size()) == 0;
-    for (std::size_t each = 0; sized && each < std::min(threads, count); each++) {
-        pthread_t thread;
-        if (pthread_create(&thread, &attributes, start, this) == 0) {
-            threads_.push_back(thread);
-        }
-    }
-    pthread_attr_destroy(&attributes);
+Workers::Workers(Turns turns, std::size_t threads, std::function<void(std::size_t)> work)
+    : turns_{std::move(turns)}, work_{std::move(work)}, finished_(turns_.size(), false) {
+    start_threads(std::min(threads, turns_.size()));
     // Where no thread is to be had the work is done here, on a stack that is larger.
     if (threads_.empty()) {
         run();
@@ -38,14 +30,36 @@ Workers::Workers(std::size_t count, std::size_t threads, std::function<void(std:
 }
 
 Workers::~Workers() {
+    next_ = finished_.size();
     for (const pthread_t thread : threads_) {
         pthread_join(thread, nullptr);
     }
 }
 
+void Workers::start_threads(std::size_t count) {
+    pthread_attr_t attributes;
+    if (pthread_attr_init(&attributes) != 0) {
+        return;
+    }
+    // There has to be room for a thread before it runs.
+    threads_.reserve(count);
+    const bool sized = pthread_attr_setstacksize(&attributes, stack_size()) == 0;
+    for (std::size_t each = 0; sized && each < count; each++) {
+        pthread_t thread;
+        if (pthread_create(&thread, &attributes, start, this) == 0) {
+            threads_.push_back(thread);
+        }
+    }
+    pthread_attr_destroy(&attributes);
+}
+
 bool Workers::wait(std::size_t piece, std::chrono::milliseconds moment) {
     std::unique_lock lock{mutex_};
-    return changed_.wait_for(lock, moment, [&] { return finished_[piece]; });
+    changed_.wait_for(lock, moment, [&] { return finished_[piece] || problem_; });
+    if (!finished_[piece] && problem_) {
+        std::rethrow_exception(problem_);
+    }
+    return finished_[piece];
 }
 
 std::size_t Workers::done() {
@@ -54,13 +68,32 @@ std::size_t Workers::done() {
 }
 
 void Workers::run() {
-    for (std::size_t piece = next_++; piece < finished_.size(); piece = next_++) {
-        work_(piece);
-        const std::lock_guard lock{mutex_};
-        finished_[piece] = true;
-        done_++;
-        changed_.notify_one();
+    try {
+        for (std::size_t piece = next_++; piece < finished_.size(); piece = next_++) {
+            do_piece(piece);
+        }
+    } catch (...) {
+        stop(std::current_exception());
     }
+}
+
+void Workers::do_piece(std::size_t piece) {
+    std::unique_lock lock{mutex_};
+    // Pieces are begun in their order, so the one before is begun already.
+    changed_.wait(lock, [&] { return !turns_[piece] || finished_[*turns_[piece]] || problem_; });
+    lock.unlock();
+    work_(piece);
+    lock.lock();
+    finished_[piece] = true;
+    done_++;
+    changed_.notify_all();
+}
+
+void Workers::stop(std::exception_ptr problem) {
+    const std::lock_guard lock{mutex_};
+    problem_ = std::move(problem);
+    next_ = finished_.size();
+    changed_.notify_all();
 }
 
 void *Workers::start(void *workers) {

@@ -46,13 +46,40 @@ links_to_folders_end() {
     rejudges 0 "$(row "$in/other/gateway.sheet" "${good[@]}" none -)" "$in/other"
 }
 
+# Where a link leads can't always be looked at: it may be a folder of sheets, on a disk that isn't there.
+links_that_lead_nowhere_are_told() {
+  local in
+  in=$(room astray)
+  mkdir -p "$in/shut/inner"
+  cp examples/gateway.sheet "$in/shut/inner"
+  ln -s shut/inner "$in/behind"
+  ln -s /no/such/disk "$in/gone"
+  ln -s loop "$in/loop"
+  chmod 000 "$in/shut"
+  as_nobody --quiet "$in" >"$work/table"
+  [[ $? == 2 ]] && chmod 755 "$in/shut" && diff "$work/table" <(
+    unread "$in/behind" 'Permission denied'
+    unread "$in/gone" 'No such file or directory'
+    unread "$in/loop" 'Too many levels of symbolic links'
+    unread "$in/shut" 'Permission denied'
+  )
+}
+
+# A folder that can't be read to its end stops nothing else.
+folders_that_fail_are_told() {
+  SITES_CALL=readdir with_faults rejudge --quiet examples examples/gateway.sheet >"$work/table"
+  [[ $? == 2 ]] && diff "$work/table" <(unread examples 'Input/output error' && row examples/gateway.sheet "${good[@]}" same -)
+}
+
+# Names with controls of one byte and of two, and with bytes that are no UTF-8; the scripts write them as the table does.
 odd_names_stay_on_their_line() {
   local in name
   in=$(room odd)
-  for name in $'tab\t' $'line\nend' 'back\slash' $'\033[31m' ' ' '-x' 'ä'; do
+  for name in $'tab\t' $'line\nend' 'back\slash' $'\033[31m' ' ' '-x' 'ä' $'\xc2\x9b31m' $'\xff' $'\xed\xa0\x80' '€𝄞'; do
     cp examples/gateway.sheet "$in/$name.sheet"
   done
-  rejudges 0 "$(for name in '\x1b[31m' ' ' '-x' 'back\\slash' 'line\nend' 'tab\t' 'ä'; do row "$in/$name.sheet" "${good[@]}" none -; done)" "$in" &&
+  rejudges 0 "$(for name in '\x1b[31m' ' ' '-x' 'back\\slash' 'line\nend' 'tab\t' '\xc2\x9b31m' 'ä' '€𝄞' '\xed\xa0\x80' '\xff'; do row "$in/$name.sheet" "${good[@]}" none -; done)" "$in" &&
+    (source tools/scripts.sh && for name in "$in"/*; do escaped "$name" && echo; done) | sort | cmp - <(cut -f 1 "$work/table" | sort) &&
     (cd "$in" && find . -name '*.sheet' -printf '%P\0') | rejudge_in "$in" --quiet --null | cmp - <(sed "s:^$in/::" "$work/table") &&
     rejudge_in "$in" --quiet -- -x.sheet | cmp - <(row -x.sheet "${good[@]}" none -)
 }
@@ -67,20 +94,40 @@ a_list_on_standard_input() {
     rejudges 2 "$(unread gone.sheet 'No such file or directory')" <<<gone.sheet
 }
 
-# Without the rights to read or write; root has them all, so nobody runs it.
+# It is no empty list.
+a_list_that_can_not_be_read_is_told() {
+  rejudges 2 '' <&- && [[ $(<"$work/said") == 'rejudge: the list of names could not be read: Bad file descriptor' ]] &&
+    rejudges 2 '' <tests && [[ $(<"$work/said") == 'rejudge: the list of names could not be read: Is a directory' ]]
+}
+
+# The system would take what stands before the zero byte for the name, and the sheet for its own verdict.
+a_name_with_a_zero_byte_is_no_name() {
+  local in
+  in=$(room zero)
+  cp examples/gateway.sheet "$in/a.sheet"
+  cp examples/gateway.sheet "$in/b.sheet"
+  rejudges 2 "$(unread "$in/a.sheet"'\x00'"$in/b.sheet"'\x00' 'a name with a zero byte: such a list wants --null')" --store < <(printf '%s\0' "$in"/[ab].sheet) &&
+    cmp "$in/a.sheet" examples/gateway.sheet && [[ $(ls "$in") == $'a.sheet\nb.sheet' ]]
+}
+
+# Runs rejudge without the rights to read or write; root has them all, so nobody runs it.
+as_nobody() { # [WORD...]
+  local nobody=()
+  if ((EUID == 0)); then
+    nobody=(setpriv --reuid=65534 --regid=65534 --clear-groups)
+  fi
+  cp target/sites/rejudge "$work/program" && "${nobody[@]}" "${emulator[@]}" "$work/program" "$@"
+}
+
 what_is_shut_is_told() {
-  local in nobody=()
+  local in
   in=$(room shut)
-  cp target/sites/rejudge "$work/program"
   mkdir "$in/closed"
   cp examples/gateway.sheet "$in/can-not-store.sheet"
   cp examples/gateway.sheet "$in/shut.sheet"
   chmod 000 "$in/shut.sheet" "$in/closed"
   chmod 555 "$in"
-  if ((EUID == 0)); then
-    nobody=(setpriv --reuid=65534 --regid=65534 --clear-groups)
-  fi
-  "${nobody[@]}" "${emulator[@]}" "$work/program" --quiet --store "$in" >"$work/table"
+  as_nobody --quiet --store "$in" >"$work/table"
   [[ $? == 2 ]] && chmod 755 "$in" "$in/closed" && diff "$work/table" <(
     row "$in/can-not-store.sheet" "${good[@]}" unwritten 'Permission denied'
     unread "$in/closed" 'Permission denied'

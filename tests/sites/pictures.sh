@@ -30,11 +30,24 @@ the_table_and_the_pictures_agree() {
   done <tests/sites/examples.table
 }
 
+# Whether a picture shows exactly this text somewhere.
+shows() { # PICTURE.svg TEXT
+  shown "$1" | sed "s/&#160;\\|\xc2\xa0/ /g; s/&#39;/'/g; s/&quot;/\"/g; s/&lt;/</g; s/&gt;/>/g; s/&amp;/\\&/g" | grep -Fxq -e "$2"
+}
+
 odd_labels_are_drawn() {
   local label
-  for label in '"' '\' '\N' '<b>' '&' '&amp;' '   ' '>' "'" '%s' '//' '#' '{}|'; do
+  for label in '"' '\' '\N' '\G\E\T\H\L' '\\N' 'a\nb\' ']' ']]' ']]>' '<b>' '&' '&amp;' '   ' '>' "'" '%s' '//' '#' '{}|'; do
     label=$label awk -F'\t' -v OFS='\t' '$1 == "box" && $2 == 1 { $3 = ENVIRON["label"] } { print }' examples/gateway.sheet >"$work/label.sheet"
-    ./draw "$work/label.sheet" "$work/label.svg" 2>"$work/said" && [[ ! -s $work/said ]] && grep -q 'views accepted' "$work/label.svg" || return 1
+    ./draw "$work/label.sheet" "$work/label.svg" 2>"$work/said" && [[ ! -s $work/said ]] && shows "$work/label.svg" "$label" &&
+      shows "$work/label.svg" 'views accepted' || { echo "sites: the label $label" && return 1; }
+  done
+}
+
+odd_names_are_titles() {
+  local title
+  for title in '\G' ']' '&#92;'; do
+    cp examples/gateway.sheet "$work/$title" && ./draw "$work/$title" "$work/title.svg" && shows "$work/title.svg" "$title" || { echo "sites: the title $title" && return 1; }
   done
 }
 
@@ -42,13 +55,39 @@ a_picture_can_be_png() {
   ./draw examples/gateway.sheet "$work/gateway.png" && [[ $(head -c 8 "$work/gateway.png" | od -An -tx1) == ' 89 50 4e 47 0d 0a 1a 0a' ]]
 }
 
+# Neither where it has the sheet's name, nor on the way to another.
+a_picture_is_never_the_sheet() {
+  local in
+  in=$(room drawn)
+  cp examples/gateway.sheet "$in/a.svg"
+  cp examples/gateway.sheet "$in/b.svg.new"
+  ./draw "$in/a.svg" "$in/./a.svg" 2>"$work/said"
+  [[ $? == 2 && $(<"$work/said") == "draw: $in/./a.svg is the sheet, and left alone" ]] && ./draw "$in/b.svg.new" "$in/b.svg" &&
+    cmp "$in/a.svg" examples/gateway.sheet && cmp "$in/b.svg.new" examples/gateway.sheet && [[ $(ls "$in") == $'a.svg\nb.svg\nb.svg.new' ]]
+}
+
 draw_tells_what_it_could_not_do() {
+  local in
+  in=$(room undrawn)
+  mkdir "$in/folder.svg"
+  ./draw examples/gateway.sheet "$in/folder.svg" 2>"$work/said"
+  [[ $? == 2 && $(tail -n 1 "$work/said") == "draw: $in/folder.svg could not be drawn" && $(find "$in") == "$in"$'\n'"$in/folder.svg" ]] || return 1
+  # A limit on the size of files stands for a disk that is full just before the end, where the signal is ignored.
+  ./draw examples/gateway.sheet "$in/whole.svg" || return 1
+  (trap '' XFSZ && ulimit -f $((($(wc -c <"$in/whole.svg") - 1) / 1024)) && exec ./draw examples/gateway.sheet "$in/full.svg" 2>/dev/null)
+  [[ $? == 2 && $(ls "$in") == $'folder.svg\nwhole.svg' ]] || return 1
+  ./draw examples/gateway.sheet "$in/nowhere/"$'\n\033.svg' 2>"$work/said"
+  [[ $? == 2 && $(tail -n 1 "$work/said") == "draw: $in/nowhere/"'\n\x1b.svg could not be written' ]] || return 1
+  ./draw examples/gateway.sheet >/dev/full 2>"$work/said"
+  [[ $? == 2 && $(<"$work/said") == 'draw: what dot is given could not be written' ]] || return 1
+  ./draw examples/gateway.sheet >&- 2>"$work/said"
+  [[ $? == 2 && $(<"$work/said") == 'draw: what dot is given could not be written' ]] || return 1
   ./draw examples/missing.sheet "$work/missing.svg" 2>"$work/said"
   [[ $? == 2 && ! -e $work/missing.svg && $(<"$work/said") == 'draw: examples/missing.sheet: No such file or directory' ]] || return 1
   ./draw examples/gateway.sheet "$work/nowhere/gateway.svg" 2>/dev/null
   [[ $? == 2 ]] || return 1
   ./draw examples/gateway.sheet "$work/gateway.strange" 2>/dev/null
-  [[ $? == 2 && ! -e $work/gateway.strange && ! -e $work/gateway.strange.new ]] || return 1
+  [[ $? == 2 && -z $(compgen -G "$work/gateway.strange*") ]] || return 1
   ./draw 2>/dev/null
   [[ $? == 2 ]]
 }

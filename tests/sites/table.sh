@@ -47,6 +47,50 @@ status_1_where_somebody_has_to_look() {
     rejudges 1 "$(row "$in/order.sheet" "${good[@]}" changed 'the same lines in other bytes')" "$in/order.sheet"
 }
 
+# Nothing but its mark would be left of an empty line.
+an_empty_line_more_is_a_change() {
+  local in
+  in=$(room empty-line)
+  cp examples/gateway.sheet "$in"
+  { cat examples/gateway.verdict && echo; } >"$in/gateway.verdict"
+  rejudges 1 "$(row "$in/gateway.sheet" "${good[@]}" changed '-an empty line')" "$in"
+}
+
+# What a stored verdict has in it may be meant for the terminal.
+controls_in_a_stored_verdict_are_escaped() {
+  local in
+  in=$(room controls)
+  cp examples/gateway.sheet "$in"
+  { cat examples/gateway.verdict && printf 'a\xc2\x9b2Jb\xffc\xc3\xa4\n'; } >"$in/gateway.verdict"
+  rejudges 1 "$(row "$in/gateway.sheet" "${good[@]}" changed '-a\xc2\x9b2Jb\xffcä')" "$in"
+}
+
+# Has each allocation fail in turn, and all after it, until there are no more of them.
+memory_that_is_short_is_told() { # PROGRAM [WORD...]
+  local failing status=2
+  for ((failing = 1; status == 2; failing++)); do
+    SITES_ALLOCATION=$failing with_faults "$@" >/dev/null 2>"$work/said"
+    status=$?
+    [[ $status == 0 || $(<"$work/said") == "$1: out of memory" ]] || { echo "sites: $1, allocation $failing: status $status" && cat "$work/said" && return 1; }
+  done
+  echo "sites: $1 has told that each of $((failing - 2)) allocations failed"
+  [[ $status == 0 ]] && ((failing > 2))
+}
+
+rejudge_tells_that_memory_is_short() {
+  local in
+  in=$(room memory)
+  mkdir "$in/below"
+  cp examples/gateway.sheet "$in"
+  cp examples/gateway.sheet "$in/linked.sheet"
+  ln -s gateway.verdict "$in/linked.verdict"
+  memory_that_is_short_is_told rejudge --quiet --store --threads 1 "$in" && cmp "$in/gateway.verdict" examples/gateway.verdict
+}
+
+draw_tells_that_memory_is_short() {
+  memory_that_is_short_is_told draw examples/gateway.sheet
+}
+
 status_2_where_the_words_are_wrong() {
   rejudges 2 '' --threads 0 examples && rejudges 2 '' --threads && rejudges 2 '' --threads 1x examples && rejudges 2 '' --stor examples &&
     grep -q '^usage: ' "$work/said"
@@ -54,6 +98,8 @@ status_2_where_the_words_are_wrong() {
 
 status_2_where_the_table_can_not_be_written() {
   ./rejudge examples/gateway.sheet >/dev/full 2>"$work/said"
+  [[ $? == 2 && $(<"$work/said") == 'rejudge: the table could not be written' ]] || return 1
+  ./rejudge examples/gateway.sheet >&- 2>"$work/said"
   [[ $? == 2 && $(<"$work/said") == 'rejudge: the table could not be written' ]]
 }
 
