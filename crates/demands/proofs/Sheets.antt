@@ -10,6 +10,9 @@ use native.Mathlib.Nat.{div-le-self, mod-le, mul-le-mul}
 use lib.ListN.{length, getD, take, replicate, length-replicate}
 use borrow.Author.Tests.{eq-eqb, lt-ltb, le-leb}
 use Rattle.model.specs.Limits.{BOXES, ACTIONS, ARROWS, VIEW-ENTRIES, SHEET-BYTES, LARGEST-ID, LARGEST-NUMBER, STATES}
+use Rattle.model.specs.Good.{GoodSizes}
+use Rattle.model.specs.declared.Sizes.{Sizes}
+use Rattle.model.specs.Made.{sizesFrom}
 use Rattle.text.specs.Lines.{lines}
 use Rattle.sheet.specs.declared.Record.{Record}
 use Rattle.sheet.specs.Records.{position}
@@ -20,7 +23,6 @@ use Rattle.sheet.specs.Words as words
 use Rattle.sheet.specs.Meaning.{RefusedText}
 use Rattle.sheet.proofs.Table.{refused-means, means-refused}
 use Rattle.laws.specs.Choice.{both}
-use Rattle.sheet.proofs.Good.{Sizes}
 use Rattle.demands.specs.Printed as paper
 use Rattle.demands.specs.Printed.{Row, Box, Step, Paper, Good, Each, Boxes, Known, Arrow, idsOf, boxRow, actRow, goRow, arrowRow, viewRow, rowsFrom, rowsOf, print, PrintedFrom}
 use Rattle.demands.proofs.Rows.{PlainRow, PlainRows, glue, decimal-plain}
@@ -214,18 +216,21 @@ module _ (p : Paper) (g : Good p) where
       let last : getD (print p) (length (print p) - 1) 0 ≡ 10 = rw e (unlines-last (glue (paper.sheetRow p)) _) in
       rw (lt-ltb _ _ some, le-leb _ _ l, eq-eqb _ _ last) refl
 
-  sizes : Sizes (p .states) (p .actions) (length (p .boxes)) (p .start)
+  abbrev sizesOf : Sizes
+  sizesOf = sizesFrom (p .states) (p .actions) (length (p .boxes)) (p .start)
+
+  sizes : GoodSizes sizesOf
   sizes = record {
-    some-states = g .states-in .0;
-    few-states = g .states-in .1;
-    some-actions = g .actions-in .0;
-    few-actions = g .actions-in .1;
-    some-boxes = g .boxes-in .0;
-    few-boxes = g .boxes-in .1;
-    start-below = g .start-in;
+    states-some = g .states-in .0;
+    states-most = g .states-in .1;
+    actions-some = g .actions-in .0;
+    actions-most = g .actions-in .1;
+    boxes-some = g .boxes-in .0;
+    boxes-most = g .boxes-in .1;
+    start-in = g .start-in;
   }
 
-  printed-model : length (print p) ≤ SHEET-BYTES → (q : Parts) × (sheetText (print p) ≡ model (p .states) (p .actions) (length (p .boxes)) (p .start) q)
+  printed-model : length (print p) ≤ SHEET-BYTES → (q : Parts) × (sheetText (print p) ≡ model sizesOf q)
   unfolding sheetText sheetLines
   printed-model l =
       let r = parts-read emptySteps (zeros VIEW-ENTRIES) 2 in
@@ -242,4 +247,4 @@ unrefused↔printed t = (
   where
     to : ((n l : ℕ) → ¬ RefusedText t n l) → (rd : Reading) → sheetText t ≡ rd → PrintedFrom t
     to h (refusal n l) e = absurd (h n l (refused-means t n l e))
-    to h (model a b c d p) e = model-printed t e
+    to h (model z p) e = model-printed t e

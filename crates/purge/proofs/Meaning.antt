@@ -18,7 +18,7 @@ use Rattle.model.specs.declared.Model.{Model}
 use Rattle.model.proofs.Good.{model-good}
 use Rattle.purge.specs.Sets.{marked, present}
 use Rattle.purge.specs.Purged.{Askable, keptOf}
-use Rattle.purge.specs.declared.Kind.the-variants.{Plain, Intransitive}
+use Rattle.model.specs.declared.Kind.the-variants.{Plain, Intransitive}
 use Rattle.purge.proofs.Kept.{present-marked}
 use Rattle.purge.proofs.Written.{named-run}
 
@@ -41,7 +41,7 @@ module _ (m : Model) (position : ℕ) (run : List ℕ) (h : Askable m position r
       (getD run i 0) 255)
   unfolding keptOf keeps
   kept-by-sources = (
-    sym (present-marked _ (m .machine .actions) (model-good m .0 (h .good) .0 .actions-most) run (named-run _ run (h .named))),
+    sym (present-marked _ (m .machine .sizes .actions) (model-good m .0 (h .good) .0 .sizes .actions-most) run (named-run _ run (h .named))),
     marked-at (keeps intransitive (ownerAt (m .machine)) (policyOf m) position) run,
   )
 

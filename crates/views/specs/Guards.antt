@@ -10,16 +10,16 @@ use Rattle.model.specs.Limits.{STATES, ACTIONS, BOXES, NEXT-ENTRIES}
 
 -- the first alike states; the slots of one box; the numbers of pairs of classes; what is noted for each box and action
 abbrev pub LOWS : ℕ
-LOWS = 2048
+LOWS = BOXES * STATES
 
 abbrev pub SLOTS : ℕ
 SLOTS = 256
 
 abbrev pub SPOTS : ℕ
-SPOTS = 16384
+SPOTS = STATES * STATES
 
 abbrev pub KEPT : ℕ
-KEPT = 512
+KEPT = BOXES * ACTIONS
 
 abbrev pub classAt : ℕ → List ℕ → ℕ → ℕ → ℕ
 classAt states views u s = getD views (u * states + s) 0

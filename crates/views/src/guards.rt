@@ -8,14 +8,14 @@ ghost use Rattle.views.specs.Guards.{SLOTS, SPOTS, lowAt, sent, spot, Le
 use super::entry;
 
 // The first alike states, box × STATES + state; the slots of one box; the numbers of pairs of classes.
-pub const LOWS: usize = 2048;
+pub const LOWS: usize = model::BOXES * model::STATES;
 
 const SLOTS: usize = 256;
 
-pub const SPOTS: usize = 16384;
+pub const SPOTS: usize = model::STATES * model::STATES;
 
 // What is noted for each box and action, box × ACTIONS + action.
-pub const KEPT: usize = 512;
+pub const KEPT: usize = model::BOXES * model::ACTIONS;
 
 fn broad(x: u16) -> usize
     ensures { λ r. ⌜ r ≡ x ⌝ }

@@ -46,7 +46,7 @@ alones-requires : tie.Need-alones-requires
 alones-requires c κs =
     let c17 = c .before .before .before .before .before .before .before .before .before .before .before .before .before .before .before .before .before in
     let g = c17 .pre .1 .machine in
-    (g .states-most, g .boxes-most)
+    (g .sizes .states-most, g .sizes .boxes-most)
 
 first-step-requires : tie.Need-first-step-requires
 first-step-requires c κs =

@@ -40,7 +40,7 @@ quiet-requires c κs =
     let c7 = c2 .before .before .before .before .before in
     let g = c7 .pre .1 .0 in
     let l = c2 .actions-test .taken in
-    (c7 .pre .0, (lows-low (c7 .pre .1 .1) (owner-in g l (c .owner .ensures)), (g .states-most, g .actions-most, owner-small g l (c .owner .ensures), l)))
+    (c7 .pre .0, (lows-low (c7 .pre .1 .1) (owner-in g l (c .owner .ensures)), (g .sizes .states-most, g .sizes .actions-most, owner-small g l (c .owner .ensures), l)))
 
 actions-again : tie.Need-actions-again Inv-seconds μ-seconds Inv-firsts μ-firsts Inv-actions μ-actions
 actions-again c =
@@ -61,8 +61,8 @@ leaks-requires c κs =
     let c8 = c6 .before .before in
     let c13 = c8 .before .before .before .before .before in
     let g = c13 .pre .1 .0 in (
-      g .states-most,
-      g .actions-most,
+      g .sizes .states-most,
+      g .sizes .actions-most,
       owner-small g (c8 .actions-test .taken)
           (c6 .owner .ensures),
       c8 .actions-test .taken,
