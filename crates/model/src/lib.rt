@@ -3,11 +3,12 @@ ghost use mathlib.Core.Path.{_≡_};
 ghost use mathlib.Core.Bool.{false, not};
 ghost use Prim.Native.Nat.{_+_, _*_, _<_, _≤_};
 ghost use lib.Dec.{eqb, ltb};
-ghost use lib.ListN.{getD};
+ghost use lib.ListN.{getD, length};
 ghost use Rattle.laws.specs.Choice.{both, brings};
 ghost use Rattle.laws.specs.Range.{every};
 ghost use Rattle.model.specs.Limits.{STATES, ACTIONS, BOXES};
 ghost use Rattle.model.specs.Made.{sizesFrom, machineFrom, modelFrom};
+ghost use Rattle.model.specs.Highest.{Higher, Highest};
 ghost use Rattle.model.specs.Refused.{sized, sizesFit, ownersFit, machineFits, nextFits, idsFit, arrowsFit, selvesFit, drawingFits, machineTableFits, modelFits, modelTableFits};
 
 // The three limits that every other one of a model follows from.
@@ -204,6 +205,27 @@ fn machine_fits(machine: Machine) -> bool
     false
 }
 
+fn higher(x: u16, y: u16) -> u16
+    ensures { λ r. ⌜ Higher x y r ⌝ }
+{
+    if x < y {
+        return y;
+    }
+    x
+}
+
+// The highest of the first n entries, 0 where there is none.
+fn highest(table: &[u16], n: usize) -> u16
+    requires { ⌜ n ≤ length (now table) ⌝ }
+    ensures { λ r. ⌜ Highest n (now (table .entry)) r ⌝ }
+{
+    let mut top = 0u16;
+    'entries: for i in 0..n {
+        top = higher(top, table[i]);
+    }
+    top
+}
+
 // Whether the next states that stand in a row from `base` on are states.
 fn row_fits(next: &[u16], base: usize, actions: usize, states: usize) -> bool
     requires { ⌜ (base ≤ STATES * ACTIONS) × (actions ≤ ACTIONS) ⌝ }
@@ -217,7 +239,7 @@ fn row_fits(next: &[u16], base: usize, actions: usize, states: usize) -> bool
     true
 }
 
-fn next_fits(machine: Machine, next: &[u16]) -> bool
+fn rows_fit(machine: Machine, next: &[u16]) -> bool
     requires { ⌜ (machine .sizes .states ≤ STATES) × (machine .sizes .actions ≤ ACTIONS) ⌝ }
     ensures { λ r. ⌜ r ≡ nextFits machine (now (next .entry)) ⌝ }
 {
@@ -230,6 +252,18 @@ fn next_fits(machine: Machine, next: &[u16]) -> bool
         return false;
     }
     true
+}
+
+// The same, by the highest of them where the table is long enough.
+fn next_fits(machine: Machine, next: &[u16]) -> bool
+    requires { ⌜ (machine .sizes .states ≤ STATES) × (machine .sizes .actions ≤ ACTIONS) × (0 < machine .sizes .states) ⌝ }
+    ensures { λ r. ⌜ r ≡ nextFits machine (now (next .entry)) ⌝ }
+{
+    let n = machine.sizes.states * machine.sizes.actions;
+    if n <= next.len() {
+        return wide16(highest(next, n)) < machine.sizes.states;
+    }
+    rows_fit(machine, next)
 }
 
 // Whether no box before this one has its id.

@@ -14,7 +14,7 @@ use lib.ListN.{length, getD, set, length-set, replicate, length-replicate}
 use lib.Seq.{getD-set-same, getD-set-other}
 use borrow.Author.Tests.{eq-eqb, eqb-true}
 use Rattle.laws.proofs.Tests.{not-both, not-yes, without-none, both-true}
-use Rattle.laws.proofs.Range.{every-at}
+use Rattle.laws.proofs.Range.{every-at, every-of}
 use Rattle.laws.proofs.Search.{firstOf-empty, when-rest, when-no}
 use Rattle.model.specs.Limits.{STATES, ACTIONS, BOXES, NEXT-ENTRIES}
 use Rattle.model.specs.Denoted.{ownerAt}
@@ -50,6 +50,11 @@ strong-calm states actions next low u o a h = record {
 alone-same : (states : ℕ) (low : List ℕ) (u : ℕ) → aloneIn states low u ≡ true → (s t : ℕ) → s < states → t < states → lowAt low u s ≡ lowAt low u t → s ≡ t
 unfolding aloneIn
 alone-same states low u h s t p q r = sym (eqb-true _ _ (every-at _ _ h s p)) ∙ r ∙ eqb-true _ _ (every-at _ _ h t q)
+
+pub alone-quiet : (states actions : ℕ) (outputs low : List ℕ) (o a : ℕ) → aloneIn states low o ≡ true → quietIn states actions outputs low o a ≡ true
+unfolding aloneIn quietIn
+alone-quiet states actions outputs low o a h =
+    every-of states _ (λ s p. eq-eqb _ _ (ap (λ x. getD outputs (x * actions + a) 0) (sym (eqb-true _ _ (every-at _ _ h s p)))))
 
 pub alones-none : (states : ℕ) (low : List ℕ) → Alones states low (replicate BOXES false)
 alones-none states low =

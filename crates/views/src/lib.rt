@@ -134,10 +134,12 @@ fn first_output(
     outputs: &[u16],
     views: &[u16],
     low: &[u8; guards::LOWS],
+    alones: &[bool; model::BOXES],
 ) -> Judgement
     requires { ⌜ length (now outputs) ≡ OUTPUT-ENTRIES ⌝ }
     requires { ⌜ GoodMachine machine ⌝ }
     requires { ⌜ Lows (machine .sizes .states) (machine .sizes .boxes) (now views) (now low) ⌝ }
+    requires { ⌜ Alones (machine .sizes .states) (now low) (now alones) ⌝ }
     ensures { λ r. ⌜ r ≡ answer (firstOutput (machineOf machine [] (now (outputs .entry))) everyState (viewOf machine (now (views .entry)))) ⌝ }
 {
     let states = machine.sizes.states;
@@ -146,7 +148,7 @@ fn first_output(
     let mut found = Judgement::Accepted;
     'actions: for a in 0..actions {
         let o = model::owner(&owners, a);
-        if guards::quiet(low, outputs, states, actions, o, a) {
+        if guards::silent(low, outputs, alones, states, actions, o, a) {
             continue 'actions;
         }
         'firsts: for s in 0..states {
@@ -278,7 +280,8 @@ fn first_broken(model: Model, next: &[u16], outputs: &[u16], views: &[u16]) -> J
     let actions = machine.sizes.actions;
     let boxes = machine.sizes.boxes;
     let low = guards::lows(views, states, boxes);
-    let output = first_output(machine, outputs, views, &low);
+    let alones = guards::alones(&low, states, boxes);
+    let output = first_output(machine, outputs, views, &low, &alones);
     let Judgement::Accepted = output else {
         return output;
     };
@@ -287,7 +290,6 @@ fn first_broken(model: Model, next: &[u16], outputs: &[u16], views: &[u16]) -> J
     let Judgement::Accepted = respect else {
         return respect;
     };
-    let alones = guards::alones(&low, states, boxes);
     first_step(machine, next, views, &low, &kept, &alones)
 }
 
