@@ -6,7 +6,7 @@
 // Reading: the prefix of every go and view line is known beforehand and compared as words; numbers are converted eight
 // bytes at once; any surprise goes to a slow path that names the refusal.
 // Views: classes are made dense bytes; each state's lowest alike state stands for its class, so output and step are one
-// comparison a state and not one a pair; respect and needed arrows compare the classes of all sixteen boxes at once.
+// comparison a state and not one a pair; respect and needed arrows compare the classes of all boxes at once.
 // Sameness: rounds of Moore, so that the depth comes out, but a round splits only by the smaller parts of what the last
 // round split (Hopcroft's trick, level by level), on 128-bit masks; where many parts are new, a round groups whole rows
 // by hash instead.
@@ -14,15 +14,17 @@
 #include <cstdio>
 #include <cstring>
 #include <emmintrin.h>
+#include <zarpalume.h>
 
 typedef uint8_t u8;
 typedef uint16_t u16;
 typedef uint32_t u32;
 typedef uint64_t u64;
-typedef u8 Row __attribute__((vector_size(16)));  // a byte for each box
 
-static const size_t SHEET_BYTES = 32768, VERDICT_BYTES = 8192;
-enum { MOST_STATES = 128, MOST_ACTIONS = 32, MOST_BOXES = 16 };
+enum { MOST_STATES = ZARPALUME_STATES, MOST_ACTIONS = ZARPALUME_ACTIONS, MOST_BOXES = ZARPALUME_BOXES };
+typedef u8 Row __attribute__((vector_size(MOST_BOXES)));  // a byte for each box
+typedef u32 Boxes;  // a bit for each box
+static_assert(MOST_BOXES <= 32);
 
 // ------------------------------------------------------------------ the model
 
@@ -44,16 +46,16 @@ struct Model {
     u32 states, actions, boxes, start;
     u16 id[MOST_BOXES];
     u8 owner[MOST_ACTIONS];
-    u16 arrow[MOST_BOXES];  // bit u of arrow[v]: v interferes with u
+    Boxes arrow[MOST_BOXES];  // bit u of arrow[v]: v interferes with u
     u8 next[MOST_STATES * MOST_ACTIONS];  // s * actions + a
     alignas(16) u8 by_action[MOST_ACTIONS][MOST_STATES];  // the same, by action
     u16 out[MOST_STATES * MOST_ACTIONS];
-    u8 view[MOST_BOXES][MOST_STATES];  // dense classes, below 128
+    u8 view[MOST_BOXES][MOST_STATES];  // dense classes, below MOST_STATES
     Row row[MOST_STATES];  // the same, by state
 };
 
 static Model the_model;
-static u8 padded[SHEET_BYTES + 64];
+static u8 padded[ZARPALUME_SHEET_BYTES + 64];
 static u8 position_of[65536];  // box position + 1, or 0
 static u32 state_text[MOST_STATES], state_text_length[MOST_STATES];  // "123\t" as bytes, and its length
 
@@ -198,7 +200,7 @@ static bool parse_lines(const u8 *text, const u8 *end, Model &model, Refusal &re
         line++;
         TAKE(1 << BOX);
         if (position_of[record.value[0]]) REFUSE(7);
-        if (record.label_length - 1 >= 32) REFUSE(9);
+        if (record.label_length - 1 >= ZARPALUME_LABEL_BYTES) REFUSE(9);
         for (u32 i = 0; i < record.label_length; i++)
             if ((u8)(record.label[i] - 0x20) > 0x5E) REFUSE(9);
         model.id[position] = record.value[0];
@@ -288,10 +290,10 @@ static bool parse_lines(const u8 *text, const u8 *end, Model &model, Refusal &re
             TAKE(1 << VIEW);
             REFUSE(record.value[0] != model.id[position] ? 8 : 6);
         }
-        if (seen < 128) for (u32 s = 0; s < states; s++) model.view[position][s] = wide[s];
+        if (seen < MOST_STATES) for (u32 s = 0; s < states; s++) model.view[position][s] = wide[s];
         else make_dense(wide, model.view[position], states);
         u8 *column = (u8 *)model.row + position;
-        for (u32 s = 0; s < states; s++) column[16 * s] = model.view[position][s];
+        for (u32 s = 0; s < states; s++) column[MOST_BOXES * s] = model.view[position][s];
     }
     line = view_first + boxes * states;
     if (text != end) REFUSE(2);
@@ -301,7 +303,7 @@ static bool parse_lines(const u8 *text, const u8 *end, Model &model, Refusal &re
 }
 
 static bool parse(const u8 *sheet, size_t length, Model &model, Refusal &refusal) {
-    if (length < 1 || length > SHEET_BYTES || sheet[length - 1] != '\n') {
+    if (length < 1 || length > ZARPALUME_SHEET_BYTES || sheet[length - 1] != '\n') {
         refusal = {1, 0};
         return false;
     }
@@ -319,15 +321,17 @@ static bool parse(const u8 *sheet, size_t length, Model &model, Refusal &refusal
 enum Condition { ACCEPTED, OUTPUT, RESPECT, STEP };
 struct Place { u32 condition, box, action, s, t; };
 
+static Boxes all_of(u32 boxes) { return (Boxes)((1ull << boxes) - 1); }
+
 // a byte of ones for every box
-static Row row_of(u32 bits) {
+static Row row_of(Boxes bits) {
     Row row = {};
     for (u32 u = 0; u < MOST_BOXES; u++) row[u] = bits >> u & 1 ? 0xFF : 0;
     return row;
 }
-static u32 bits_of(Row row) {
-    u32 bits = 0;
-    for (u32 u = 0; u < MOST_BOXES; u++) bits |= (u32)(row[u] != 0) << u;
+static Boxes bits_of(Row row) {
+    Boxes bits = 0;
+    for (u32 u = 0; u < MOST_BOXES; u++) bits |= (Boxes)(row[u] != 0) << u;
     return bits;
 }
 
@@ -345,7 +349,7 @@ static Place judge(const Model &model) {
     bool single[MOST_BOXES];  // no two states alike
     u32 pair_count[MOST_BOXES];
     for (u32 u = 0; u < boxes; u++) {
-        u8 first[128], many[128];
+        u8 first[MOST_STATES], many[MOST_STATES];
         memset(first, 0xFF, sizeof first);
         memset(many, 0, sizeof many);
         u32 pairs = 0;
@@ -381,7 +385,7 @@ static Place judge(const Model &model) {
     }
 
     // respect
-    const u32 all = (1u << boxes) - 1;
+    const Boxes all = all_of(boxes);
     {
         u32 changed[MOST_ACTIONS], bad = 0;
         for (u32 a = 0; a < actions; a++) {
@@ -401,8 +405,8 @@ static Place judge(const Model &model) {
 
     // step; where an action's box does not interfere with u, respect has settled it
     u32 broken[MOST_ACTIONS] = {};  // boxes broken at the action
-    u16 left[MOST_BOXES];  // boxes u, by the action's box, still to be looked at one by one
-    u16 coarse = 0;  // boxes with two states alike
+    Boxes left[MOST_BOXES];  // boxes u, by the action's box, still to be looked at one by one
+    Boxes coarse = 0;  // boxes with two states alike
     for (u32 u = 0; u < boxes; u++) coarse |= (u32)!single[u] << u;
     for (u32 w = 0; w < boxes; w++) left[w] = single[w] ? 0 : model.arrow[w] & coarse;
     for (u32 w = 0; w < boxes; w++) {
@@ -412,7 +416,7 @@ static Place judge(const Model &model) {
         Row mask[MOST_STATES * MOST_BOXES];
         const Row wanted = row_of(left[w]);
         u32 n = 0;
-        u8 last[128], before[MOST_STATES];
+        u8 last[MOST_STATES], before[MOST_STATES];
         memset(last, 0xFF, sizeof last);
         for (u32 t = 0; t < states; t++) {
             u32 c = model.view[w][t];
@@ -477,7 +481,7 @@ static Place judge(const Model &model) {
 // ------------------------------------------------------------------ sameness
 
 struct Need {
-    u16 arrow[MOST_BOXES];
+    Boxes arrow[MOST_BOXES];
     u8 depth[MOST_BOXES];
     u32 reach;
 };
@@ -695,7 +699,7 @@ static void needed(const Model &model, Need &need) {
         const u8 *to = model.by_action[a];
         Row x = {};
         for (u32 i = 0; i < reached; i++) x |= same_row[order[i]] ^ same_row[to[order[i]]];
-        need.arrow[model.owner[a]] |= bits_of(x) & ((1u << boxes) - 1) & ~(1u << model.owner[a]);
+        need.arrow[model.owner[a]] |= bits_of(x) & all_of(boxes) & ~(1u << model.owner[a]);
     }
 }
 
@@ -757,9 +761,9 @@ static void prepare() {
 }
 
 extern "C" size_t peer_verdict(const u8 *sheet, size_t length, u8 *out, size_t out_length) {
-    if (out_length != VERDICT_BYTES) return 0;
+    if (out_length != ZARPALUME_VERDICT_BYTES) return 0;
     if (!state_text_length[0]) prepare();
     const size_t written = write_verdict(sheet, length, out);
-    memset(out + written, 0, VERDICT_BYTES - written);
+    memset(out + written, 0, ZARPALUME_VERDICT_BYTES - written);
     return written;
 }

@@ -4,11 +4,12 @@
 #include <cstdint>
 #include <cstdio>
 #include <cstdlib>
+#include <zarpalume.h>
 
 extern "C" size_t VERDICT(const uint8_t *sheet, size_t sheet_length, uint8_t *verdict, size_t verdict_length);
 
-static uint8_t sheet[1 << 16];
-static uint8_t verdict[8192];
+static uint8_t sheet[2 * ZARPALUME_SHEET_BYTES];
+static uint8_t verdict[ZARPALUME_VERDICT_BYTES];
 
 int main(int count, char **words) {
     const size_t sheet_length = fread(sheet, 1, sizeof sheet, stdin);

@@ -6,13 +6,14 @@
 
 use std::{env, fs, io};
 
-const SHEET_BYTES: usize = 32_768;
-const STATES: usize = 128;
+#[path = "../tests/limits.rs"]
+mod limits;
+use limits::{ACTIONS, BOXES, SHEET_BYTES, STATES};
 
 const SHAPES: [&str; 9] = ["chain", "descent", "ladder", "identity", "pairs", "noise", "still", "late", "wide"];
 
 /// Actions and boxes.
-const RATIOS: [(&str, usize, usize); 5] = [("even", 12, 12), ("actions", 32, 4), ("both", 32, 16), ("boxes", 8, 16), ("states", 10, 8)];
+const RATIOS: [(&str, usize, usize); 5] = [("even", 12, 12), ("actions", ACTIONS, 4), ("both", ACTIONS, BOXES), ("boxes", 8, BOXES), ("states", 10, 8)];
 
 #[derive(Clone, Copy)]
 struct Sizes {
@@ -123,7 +124,7 @@ fn sheet(shape: &str, sizes: Sizes, quick: bool) -> String {
 /// Few states, and arrows drawn again and again.
 fn flows(quick: bool) -> String {
     let mut dice = Dice(0x5EED_2A9A_11CE_0002);
-    let text = sheet("still", Sizes { states: 4, actions: 4, boxes: 16 }, quick);
+    let text = sheet("still", Sizes { states: 4, actions: 4, boxes: BOXES }, quick);
     let mut arrows = String::new();
     while text.len() + arrows.len() + 12 <= SHEET_BYTES {
         arrows += &format!("both\t{}\t{}\n", dice.below(10), dice.below(10));

@@ -16,8 +16,8 @@
 
 namespace zarpalume {
 
-inline constexpr std::size_t most_boxes = 16;
-inline constexpr std::size_t most_arrows = most_boxes * (most_boxes - 1);
+inline constexpr std::size_t most_boxes = ZARPALUME_BOXES;
+inline constexpr std::size_t most_arrows = ZARPALUME_PAIRS;
 
 enum class Outcome : std::uint8_t { accepted, broken, refused };
 

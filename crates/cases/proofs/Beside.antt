@@ -53,4 +53,4 @@ unseen-at-once s a h la e =
 
 pub needed-all-the-same : Needed (machine p2) 0 3
 unfolding range.first choose
-needed-all-the-same = cases-hold .1 .0 .needed .0 .only 0 3 (inl refl) .2
+needed-all-the-same = cases-hold .1 .0 .0 .0 .only 0 3 (inl refl) .2

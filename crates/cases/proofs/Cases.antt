@@ -3,7 +3,7 @@
 use mathlib.Core.Path.{_≡_, refl}
 use mathlib.Core.Bool.{Bool, true, false}
 use mathlib.Core.List.{List, [], _∷_}
-use mathlib.Core.Option.{Option, none, some}
+use mathlib.Core.Option.{Option, some}
 use Prim.Native.Nat.{ℕ}
 use Rattle.laws.specs.Choice.{both, either, brings, without, choose, when, orElse}
 use Rattle.laws.specs.Search.{firstOf}
@@ -12,53 +12,57 @@ use Rattle.laws.specs.Lists.{any, elem}
 use Rattle.laws.proofs.Tests.{both-true, not-both}
 use Rattle.noninterference.specs.Machine.{run}
 use Rattle.noninterference.specs.Purge.{purge, keeps, sources}
-use Rattle.noninterference.specs.Judged.{leaks, moves, alikeToo, tears, firstOutput, firstRespect, firstStep, judged}
+use Rattle.noninterference.specs.Judged as searches
+use Rattle.noninterference.specs.Judged.{leaks, moves, alikeToo, tears, firstOutput, firstRespect, firstStep}
 use Rattle.noninterference.specs.Reached.{Reach}
 use Rattle.noninterference.specs.Rounds.{seesAlike, alike, stable, neededIn, arrowsFrom, arrowsUpto}
 use Rattle.model.specs.Refused.{sized, sizesFit, ownersFit, machineFits, nextFits, idsFit, arrowsFit, selvesFit, drawingFits, machineTableFits, modelFits, modelTableFits}
 use Rattle.register.specs.Tables.{column, byState, byBox, selves, draws}
 use Rattle.purge.specs.Purged.{namesActions, asked, keptOf}
 use Rattle.needs.specs.Listed.{flat}
-use Rattle.cases.specs.Cases.{Case, cases}
-use Rattle.cases.specs.Meets.{Claimed, Meets, AllMeet, machine}
+use Rattle.cases.specs.Cases.{Case, Claim, judged, needed, depths, reach, purged, cases}
+use Rattle.cases.specs.Meets.{Holds, AllHold, AllMeet, machine}
 use Rattle.cases.proofs.Same.{sameList}
 use Rattle.cases.proofs.Computed.{good, judgedRight, judged-right, purgedRight, purged-right}
 use Rattle.cases.proofs.Needs as needs
 use Rattle.cases.proofs.Needs.{Certificate, reachRight, depthsRight, neededRight, depthsListed, reachCounted, needed-right, depths-right, reach-right, leads, idsRight, inside, reaches}
 
--- a claim that is made passes its test
-unfoldable claimed : {A : Type 0} → (A → Bool) → Option A → Bool
-claimed test none = true
-claimed test (some x) = test x
+-- a claim passes its test
+unfoldable right : Case → Certificate → Claim → Bool
+right c k (judged v) = judgedRight c v
+right c k (needed ps) = neededRight c k ps
+right c k (depths ds) = depthsListed c k ds
+right c k (reach n) = reachCounted c k n
+right c k (purged run id kept) = purgedRight c run id kept
 
-claim : {A : Type 0} (test : A → Bool) (P : A → Type 0) → ((x : A) → test x ≡ true → P x) → (o : Option A) → claimed test o ≡ true → Claimed P o
-unfolding claimed
-claim test P h none e = tt
-claim test P h (some x) e = h x e
+unfoldable allRight : Case → Certificate → List Claim → Bool
+allRight c k [] = true
+allRight c k (x ∷ xs) = both (right c k x) (allRight c k xs)
 
 unfoldable holds : Case → Certificate → Bool
-holds c k =
-    both (good c) (both (reachRight c k) (both (depthsRight c k)
-    (both (claimed (judgedRight c) (c .judged)) (both (claimed (neededRight c k) (c .needed)) (both (claimed (depthsListed c k) (c .depths))
-    (both (claimed (reachCounted c k) (c .reach)) (claimed (purgedRight c) (c .purged))))))))
+holds c k = both (good c) (both (reachRight c k) (both (depthsRight c k) (allRight c k (c .claims))))
 
-meets : (c : Case) (k : Certificate) → holds c k ≡ true → Meets c
+module _ (c : Case) (k : Certificate) (g : good c ≡ true) (r : reachRight c k ≡ true) (d : depthsRight c k ≡ true) where
+  claim : (x : Claim) → right c k x ≡ true → Holds c x
+  unfolding right
+  claim (judged v) h = judged-right c g v h
+  claim (needed ps) h = needed-right c k g r d ps h
+  claim (depths ds) h = depths-right c k g r d ds h
+  claim (reach n) h = reach-right c k g r d n h
+  claim (purged run id kept) h = purged-right c run id kept h
+
+  claims : (xs : List Claim) → allRight c k xs ≡ true → AllHold c xs
+  unfolding allRight
+  claims [] h = tt
+  claims (x ∷ xs) h = let b = both-true _ _ h in (claim x (b .0), claims xs (b .1))
+
+meets : (c : Case) (k : Certificate) → holds c k ≡ true → AllHold c (c .claims)
 unfolding holds
 meets c k h =
     let a = both-true _ _ h in
     let b = both-true _ _ (a .1) in
     let d = both-true _ _ (b .1) in
-    let e = both-true _ _ (d .1) in
-    let f = both-true _ _ (e .1) in
-    let i = both-true _ _ (f .1) in
-    let j = both-true _ _ (i .1) in
-    record {
-      judged = claim _ _ (judged-right c (a .0)) (c .judged) (e .0);
-      needed = claim _ _ (needed-right c k (a .0) (b .0) (d .0)) (c .needed) (f .0);
-      depths = claim _ _ (depths-right c k (a .0) (b .0) (d .0)) (c .depths) (i .0);
-      reach = claim _ _ (reach-right c k (a .0) (b .0) (d .0)) (c .reach) (j .0);
-      purged = claim _ _ (purged-right c) (c .purged) (j .1);
-    }
+    claims c k (a .0) (b .0) (d .0) (c .claims) (d .1)
 
 -- ---- a run to each reachable state, and the depths: of the register machine, with X's output u + v, and of the small models
 abbrev pub registerWays : List (Option (List ℕ))
@@ -73,7 +77,7 @@ abbrev pub direct : Certificate
 direct = record { ways = registerWays; depths = 0 ∷ 0 ∷ 0 ∷ 0 ∷ [] }
 
 abbrev pub single : List ℕ → Certificate
-single depths = record { ways = some [] ∷ []; depths = depths }
+single ds = record { ways = some [] ∷ []; depths = ds }
 
 abbrev pub chain : Certificate
 chain = record { ways = some [] ∷ some (0 ∷ []) ∷ some (0 ∷ 1 ∷ []) ∷ some (0 ∷ 1 ∷ 1 ∷ []) ∷ []; depths = 0 ∷ 2 ∷ [] }
@@ -95,7 +99,7 @@ all-meet (c ∷ cs) [] h = not-both h refl
 all-meet (c ∷ cs) (k ∷ ks) h = let b = both-true _ _ h in (meets c k (b .0), all-meet cs ks (b .1))
 
 computed : allHold cases certificates ≡ true
-unfolding allHold holds claimed good judgedRight purgedRight reachRight depthsRight neededRight depthsListed reachCounted needs.namesActions leads idsRight sameList both either brings without choose when orElse firstOf range.every range.some range.count range.first range.tabulate any elem run purge keeps sources leaks moves alikeToo tears firstOutput firstRespect firstStep judged seesAlike alike stable neededIn arrowsFrom arrowsUpto sized sizesFit ownersFit machineFits nextFits idsFit arrowsFit selvesFit drawingFits machineTableFits modelFits modelTableFits column byState byBox selves draws namesActions asked keptOf flat
+unfolding allHold holds allRight right good judgedRight purgedRight reachRight depthsRight neededRight depthsListed reachCounted needs.namesActions leads idsRight sameList both either brings without choose when orElse firstOf range.every range.some range.count range.first range.tabulate any elem run purge keeps sources leaks moves alikeToo tears firstOutput firstRespect firstStep searches.judged seesAlike alike stable neededIn arrowsFrom arrowsUpto sized sizesFit ownersFit machineFits nextFits idsFit arrowsFit selvesFit drawingFits machineTableFits modelFits modelTableFits column byState byBox selves draws namesActions asked keptOf flat
 computed = refl
 
 pub cases-hold : AllMeet cases

@@ -3,6 +3,7 @@
 use mathlib.Core.Path.{_≡_, refl, _∙_, ap}
 use mathlib.Core.Logic.{_↔_}
 use mathlib.Core.Bool.{Bool, true}
+use mathlib.Core.List.{List}
 use mathlib.Core.Option.{Option, none, some}
 use Prim.Native.Nat.{ℕ, _<_}
 use lib.Dec.{eqb, leb}
@@ -20,8 +21,8 @@ use Rattle.model.specs.Refused.{modelTableFits, modelFits}
 use Rattle.model.specs.Denoted.{ownerAt}
 use Rattle.views.specs.Judgement.{judgementOf, firstBroken, answer, everyState, lengthsFit}
 use Rattle.purge.specs.Purged.{purgedOf, written, asked, keptOf}
-use Rattle.purge.specs.declared.Kind.the-variants.{Intransitive}
-use Rattle.cases.specs.Cases.{Case, Views, accepted, output, respect, step, Purge}
+use Rattle.model.specs.declared.Kind.the-variants.{Intransitive}
+use Rattle.cases.specs.Cases.{Case, Views, accepted, output, respect, step}
 use Rattle.cases.specs.Meets.{next, outputs, views, machine, state, policy, view, idAt, at, Judged, Purged}
 use Rattle.cases.proofs.Same.{sameList, same-list, ranked, same-rank, full-length}
 
@@ -68,7 +69,7 @@ module _ (c : Case) (g : good c ≡ true) where
   unfolding judgementOf firstBroken choose
   called = rw (lengths, fits)
 
-  every : (s : ℕ) → state c s ↔ ((s < c .model .machine .states) × (everyState s ≡ true))
+  every : (s : ℕ) → state c s ↔ ((s < c .model .machine .sizes .states) × (everyState s ≡ true))
   every s = (λ l. (l, refl), λ p. p .0)
 
   broken : (p : Place) → found c ≡ some p → FirstBroken intransitive (machine c) (state c) (policy c) (view c) OfAny p
@@ -93,14 +94,14 @@ module _ (c : Case) (g : good c ≡ true) where
       (broken _ e, eqb-true _ _ (b .1), called ∙ ap answer e)
 
 -- ---- purged runs
-unfoldable pub purgedRight : Case → Purge → Bool
-purgedRight c p =
-    both (modelFits (c .model)) (both (asked (c .model) (at c (p .id)) (p .run)) (sameList (keptOf (c .model) Intransitive (at c (p .id)) (p .run)) (p .kept)))
+unfoldable pub purgedRight : Case → List ℕ → ℕ → List ℕ → Bool
+purgedRight c run id kept =
+    both (modelFits (c .model)) (both (asked (c .model) (at c id) run) (sameList (keptOf (c .model) Intransitive (at c id) run) kept))
 
-pub purged-right : (c : Case) (p : Purge) → purgedRight c p ≡ true → Purged c p
+pub purged-right : (c : Case) (run : List ℕ) (id : ℕ) (kept : List ℕ) → purgedRight c run id kept ≡ true → Purged c run id kept
 unfolding purgedRight keptOf purgedOf choose
-purged-right c p h =
+purged-right c run id kept h =
     let a = both-true _ _ h in
     let b = both-true _ _ (a .1) in
-    let e : purge (keeps intransitive (ownerAt (c .model .machine)) (policy c) (at c (p .id))) (p .run) ≡ p .kept = same-list _ _ (b .1) in
-    (e, λ buffer l. rw (eq-eqb _ _ l, a .0, b .0) (ap (λ k. written k (length (p .run))) e))
+    let e : purge (keeps intransitive (ownerAt (c .model .machine)) (policy c) (at c id)) run ≡ kept = same-list _ _ (b .1) in
+    (e, λ buffer l. rw (eq-eqb _ _ l, a .0, b .0) (ap (λ k. written k (length run)) e))

@@ -59,19 +59,19 @@ leads M s (option.some r) = both (namesActions (M .actions) r) (eqb (run M (M .s
 
 unfoldable pub reachRight : Case → Certificate → Bool
 reachRight c k =
-    both (inside k (c .model .machine .start))
-    (both (every (c .model .machine .states) λ s. brings (inside k s) (every (c .model .machine .actions) λ a. inside k (machine c .step s a)))
-    (every (c .model .machine .states) λ s. leads (machine c) s (getD (k .ways) s none)))
+    both (inside k (c .model .machine .sizes .start))
+    (both (every (c .model .machine .sizes .states) λ s. brings (inside k s) (every (c .model .machine .sizes .actions) λ a. inside k (machine c .step s a)))
+    (every (c .model .machine .sizes .states) λ s. leads (machine c) s (getD (k .ways) s none)))
 
 -- each depth is stable, and nothing less is
 unfoldable pub depthsRight : Case → Certificate → Bool
 depthsRight c k =
-    every (c .model .machine .boxes) λ u.
+    every (c .model .machine .sizes .boxes) λ u.
     both (stable (machine c) (inside k) u (getD (k .depths) u 0)) (every (getD (k .depths) u 0) λ j. not (stable (machine c) (inside k) u j))
 
 abbrev computed : Case → Certificate → List Arrow
 computed c k =
-    arrowsUpto (λ v u. neededIn (machine c) (inside k) (getD (k .depths) u 0) v u) (c .model .machine .boxes) (c .model .machine .boxes)
+    arrowsUpto (λ v u. neededIn (machine c) (inside k) (getD (k .depths) u 0) v u) (c .model .machine .sizes .boxes) (c .model .machine .sizes .boxes)
 
 unfoldable pub idsRight : Case → List (ℕ × ℕ) → Bool
 idsRight c [] = true
@@ -83,10 +83,10 @@ neededRight c k ps = both (idsRight c ps) (sameList (flat (computed c k)) (flat 
 unfoldable pub depthsListed : Case → Certificate → List ℕ → Bool
 depthsListed c k ds =
     both (sameList (k .depths) ds)
-    (sameList (tabulate BOXES λ u. choose (ltb u (c .model .machine .boxes)) (getD ds u 0) 0) (full BOXES ds))
+    (sameList (tabulate BOXES λ u. choose (ltb u (c .model .machine .sizes .boxes)) (getD ds u 0) 0) (full BOXES ds))
 
 unfoldable pub reachCounted : Case → Certificate → ℕ → Bool
-reachCounted c k n = eqb (count (c .model .machine .states) (inside k)) n
+reachCounted c k n = eqb (count (c .model .machine .sizes .states) (inside k)) n
 
 named : (actions : ℕ) (r : List ℕ) → namesActions actions r ≡ true → All (λ a. a < actions) r
 unfolding namesActions
@@ -142,7 +142,7 @@ module _ (c : Case) (k : Certificate) (g : good c ≡ true) (r : reachRight c k 
       })
       (λ s l e. way-leads (machine c) s (getD (k .ways) s none) (every-at _ _ (b .1) s l) e)
 
-  depth-right : (u : ℕ) → u < c .model .machine .boxes → Depth (machine c) u (getD (k .depths) u 0)
+  depth-right : (u : ℕ) → u < c .model .machine .sizes .boxes → Depth (machine c) u (getD (k .depths) u 0)
   unfolding depthsRight
   depth-right u l =
       let b = both-true _ _ (every-at _ _ d u l) in
@@ -151,7 +151,7 @@ module _ (c : Case) (k : Certificate) (g : good c ≡ true) (r : reachRight c k 
         least = λ j lj st. not-both (stable-says (machine c) u (inside k) reaches j .1 st) (not-true _ (every-at _ _ (b .1) j lj));
       }
 
-  depth-of : (u : ℕ) → u < c .model .machine .boxes → depthOf (machine c) u ≡ getD (k .depths) u 0
+  depth-of : (u : ℕ) → u < c .model .machine .sizes .boxes → depthOf (machine c) u ≡ getD (k .depths) u 0
   depth-of u l = depth-is (machine c) u (reached (machine c)) (reach (machine c) in-states) _ (depth-right u l)
 
   -- ---- what the call answers
@@ -199,16 +199,16 @@ module _ (c : Case) (k : Certificate) (g : good c ≡ true) (r : reachRight c k 
       )
     where
       within : (ds : List ℕ) → k .depths ≡ ds → (u : ℕ) →
-          choose (ltb u (c .model .machine .boxes)) (depthOf (machine c) u) 0 ≡ choose (ltb u (c .model .machine .boxes)) (getD ds u 0) 0
+          choose (ltb u (c .model .machine .sizes .boxes)) (depthOf (machine c) u) 0 ≡ choose (ltb u (c .model .machine .sizes .boxes)) (getD ds u 0) 0
       within ds e u =
-          by-test (ltb u (c .model .machine .boxes))
-          (λ q. ap (λ x. choose (ltb u (c .model .machine .boxes)) x 0) (depth-of u (ltb-true _ _ q) ∙ ap (λ x. getD x u 0) e))
+          by-test (ltb u (c .model .machine .sizes .boxes))
+          (λ q. ap (λ x. choose (ltb u (c .model .machine .sizes .boxes)) x 0) (depth-of u (ltb-true _ _ q) ∙ ap (λ x. getD x u 0) e))
           (λ q. rw q)
 
   pub reach-right : (n : ℕ) → reachCounted c k n ≡ true → ReachIs c n
   unfolding reachCounted
   reach-right n h =
-      let e : count (c .model .machine .states) (inside k) ≡ n = eqb-true _ _ h in (
+      let e : count (c .model .machine .sizes .states) (inside k) ≡ n = eqb-true _ _ h in (
         λ p w. reach-count (machine c) p (inside k) w reaches ∙ e,
         λ l long. ap (λ x. getD (told (x .outcome)) 3 0) (answers l long)
             ∙ reach-count (machine c) (reached (machine c)) (inside k) (reach (machine c) in-states) reaches ∙ e,

@@ -2,7 +2,6 @@
 use mathlib.Core.Path.{_≡_}
 use mathlib.Core.Bool.{Bool}
 use mathlib.Core.List.{List, [], _∷_}
-use mathlib.Core.Option.{Option, none, some}
 use Prim.Native.Nat.{ℕ, _<_}
 use lib.Dec.{eqb}
 use lib.ListN.{length, getD}
@@ -24,8 +23,8 @@ use Rattle.needs.specs.Listed.{padded}
 use Rattle.needs.specs.Answered.{neededOf, listOf, told}
 use Rattle.needs.specs.declared.Needs.{Needs}
 use Rattle.purge.specs.Purged.{purgedOf, written}
-use Rattle.purge.specs.declared.Kind.the-variants.{Intransitive}
-use Rattle.cases.specs.Cases.{Case, Views, accepted, output, respect, step, Purge}
+use Rattle.model.specs.declared.Kind.the-variants.{Intransitive}
+use Rattle.cases.specs.Cases.{Case, Claim, judged, needed, depths, reach, purged, Views, accepted, output, respect, step}
 
 -- the tables at full length, as the calls take them
 abbrev pub next : Case → List ℕ
@@ -41,7 +40,7 @@ abbrev pub machine : Case → noninterference.Machine
 machine c = machineOf (c .model .machine) (next c) (outputs c)
 
 abbrev pub state : Case → ℕ → Type 0
-state c s = s < c .model .machine .states
+state c s = s < c .model .machine .sizes .states
 
 abbrev pub policy : Case → Policy
 policy c = policyOf (c .model)
@@ -54,7 +53,7 @@ idAt c u = getD (c .model .ids) u 0
 
 -- the position of the box with an id
 abbrev pub at : Case → ℕ → ℕ
-at c id = first (c .model .machine .boxes) (λ u. eqb (idAt c u) id)
+at c id = first (c .model .machine .sizes .boxes) (λ u. eqb (idAt c u) id)
 
 abbrev Broken : Case → Place → Type 0
 Broken c p = FirstBroken intransitive (machine c) (state c) (policy c) (view c) OfAny p
@@ -98,34 +97,33 @@ NeedsThese c ps =
 -- these are the boxes' depths; and the call answers them, and 0 beyond the last box
 abbrev pub DepthsAre : Case → List ℕ → Type 0
 DepthsAre c ds =
-    ((u : ℕ) → u < c .model .machine .boxes → Depth (machine c) u (getD ds u 0))
+    ((u : ℕ) → u < c .model .machine .sizes .boxes → Depth (machine c) u (getD ds u 0))
     × ((l : List ℕ) → length l ≡ LIST-ENTRIES → answered c l .depths ≡ full BOXES ds)
 
 -- so many states are reachable; and the call counts them
 abbrev pub ReachIs : Case → ℕ → Type 0
 ReachIs c n =
-    ((inside : ℕ → Bool) → Reach (machine c) inside → count (c .model .machine .states) inside ≡ n)
+    ((inside : ℕ → Bool) → Reach (machine c) inside → count (c .model .machine .sizes .states) inside ≡ n)
     × ((l : List ℕ) → length l ≡ LIST-ENTRIES → getD (told (answered c l .outcome)) 3 0 ≡ n)
 
 -- the purge keeps exactly that; and the call writes it, whatever the buffer held
-abbrev pub Purged : Case → Purge → Type 0
-Purged c p =
-    (purge (keeps intransitive (ownerAt (c .model .machine)) (policy c) (at c (p .id))) (p .run) ≡ p .kept)
-    × ((b : List ℕ) → length b ≡ length (p .run) →
-    purgedOf (c .model) Intransitive (at c (p .id)) (p .run) b ≡ written (p .kept) (length (p .run)))
+abbrev pub Purged : Case → List ℕ → ℕ → List ℕ → Type 0
+Purged c run id kept =
+    (purge (keeps intransitive (ownerAt (c .model .machine)) (policy c) (at c id)) run ≡ kept)
+    × ((b : List ℕ) → length b ≡ length run →
+    purgedOf (c .model) Intransitive (at c id) run b ≡ written kept (length run))
 
--- what is claimed holds, and what is not claimed stays open
-abbrev pub Claimed : {A : Type 0} → (A → Type 0) → Option A → Type 0
-Claimed P none = Unit {0}
-Claimed P (some x) = P x
+abbrev pub Holds : Case → Claim → Type 0
+Holds c (judged v) = Judged c v
+Holds c (needed ps) = NeedsThese c ps
+Holds c (depths ds) = DepthsAre c ds
+Holds c (reach n) = ReachIs c n
+Holds c (purged run id kept) = Purged c run id kept
 
-pub record Meets (c : Case) : Type 0 where
-  pub judged : Claimed (Judged c) (c .judged)
-  pub needed : Claimed (NeedsThese c) (c .needed)
-  pub depths : Claimed (DepthsAre c) (c .depths)
-  pub reach : Claimed (ReachIs c) (c .reach)
-  pub purged : Claimed (Purged c) (c .purged)
+abbrev pub AllHold : Case → List Claim → Type 0
+AllHold c [] = Unit {0}
+AllHold c (x ∷ xs) = Holds c x × AllHold c xs
 
 abbrev pub AllMeet : List Case → Type 0
 AllMeet [] = Unit {0}
-AllMeet (c ∷ cs) = Meets c × AllMeet cs
+AllMeet (c ∷ cs) = AllHold c (c .claims) × AllMeet cs

@@ -26,6 +26,7 @@ use Rattle.noninterference.proofs.Rounds.{depth-below, depth-computed}
 use Rattle.model.specs.Limits.{LIST-ENTRIES, STATES}
 use Rattle.model.specs.Denoted.{machineOf, policyOf, viewOf}
 use Rattle.model.specs.Good.{GoodTable, GoodDrawing}
+use Rattle.model.specs.declared.Sizes.{Sizes}
 use Rattle.model.specs.Refused.{modelTableFits, machineTableFits}
 use Rattle.model.specs.declared.Model.{Model}
 use Rattle.model.proofs.Good.{model-table-good, table-good}
@@ -70,9 +71,9 @@ small-append : (ps qs : List (ℕ × ℕ)) → SmallPairs ps → SmallPairs qs �
 small-append [] qs hp hq = hq
 small-append (p ∷ ps) qs hp hq = (hp .0, small-append ps qs (hp .1) hq)
 
-module _ (t : List ℕ) {states actions boxes start : ℕ} {p : Parts} (e : sheetText t ≡ model states actions boxes start p) where
+module _ (t : List ℕ) {z : Sizes} {p : Parts} (e : sheetText t ≡ model z p) where
   abbrev m : Model
-  m = modelOf states actions boxes start p
+  m = modelOf z p
 
   abbrev next : List ℕ
   next = p .drawn .steps .next
@@ -119,10 +120,10 @@ module _ (t : List ℕ) {states actions boxes start : ℕ} {p : Parts} (e : shee
   arrows = arrowsBy (m .ids) (neededList M)
 
   abbrev depths : List (ℕ × ℕ)
-  depths = tabulate boxes λ u. (idAt (m .ids) u, depthOf M u)
+  depths = tabulate (z .boxes) λ u. (idAt (m .ids) u, depthOf M u)
 
   abbrev reach : ℕ
-  reach = count states (reached M)
+  reach = count (z .states) (reached M)
 
   need-lines : needLines (m .ids) (listOf (m .machine) next outputs blank) (pairs (neededOf (m .machine) next outputs blank .outcome)) ≡ text (pairRows words.need arrows)
   unfolding padded
@@ -130,11 +131,11 @@ module _ (t : List ℕ) {states actions boxes start : ℕ} {p : Parts} (e : shee
       ap₂ (λ l n. needLines (m .ids) l (pairs (n .outcome))) list-written needed-answers
       ∙ needs-text (m .ids) (replicate (LIST-ENTRIES - 2 * length (neededList M)) 0) (neededList M)
 
-  depth-lines : depthLines (m .ids) (neededOf (m .machine) next outputs blank .depths) boxes ≡ text (pairRows words.depth depths)
+  depth-lines : depthLines (m .ids) (neededOf (m .machine) next outputs blank .depths) (z .boxes) ≡ text (pairRows words.depth depths)
   depth-lines =
-      ap (λ n. depthLines (m .ids) (n .depths) boxes) needed-answers
-      ∙ depths-text (m .ids) (depthsOf M) (depthOf M) boxes
-      (λ u l. depth-at M (closed (m .machine) next outputs (good .0)) (owned (m .machine) next outputs (good .0 .machine)) (good .0 .machine .boxes-most) u l)
+      ap (λ n. depthLines (m .ids) (n .depths) (z .boxes)) needed-answers
+      ∙ depths-text (m .ids) (depthsOf M) (depthOf M) (z .boxes)
+      (λ u l. depth-at M (closed (m .machine) next outputs (good .0)) (owned (m .machine) next outputs (good .0 .machine)) (good .0 .machine .sizes .boxes-most) u l)
 
   reach-line : reachLine (verdicts.reached (neededOf (m .machine) next outputs blank .outcome)) ≡ text (reachRow reach ∷ [])
   unfolding text reachRow
@@ -150,7 +151,7 @@ module _ (t : List ℕ) {states actions boxes start : ℕ} {p : Parts} (e : shee
       ∙ sym (text-append (pairRows words.need arrows) (pairRows words.depth depths ++ (reachRow reach ∷ []))))
 
   -- ---- every number is small
-  id-fits : (u : ℕ) → u < boxes → idAt (m .ids) u ≤ LARGEST
+  id-fits : (u : ℕ) → u < z .boxes → idAt (m .ids) u ≤ LARGEST
   id-fits u l = let h = good .1 .id-small u l in omega arith
 
   abbrev pub judged-views : Views
@@ -164,31 +165,31 @@ module _ (t : List ℕ) {states actions boxes start : ℕ} {p : Parts} (e : shee
       go (some (places.output o s u)) q =
           let b = first-place m next outputs views (places.output o s u) (judge-answers ∙ ap answer q) .breaks in
           let lo = b .0 in let ls = b .2 in let lu = b .3 in
-          let k = good .0 .machine .states-most in let j = good .0 .machine .actions-most in
+          let k = good .0 .machine .sizes .states-most in let j = good .0 .machine .sizes .actions-most in
           (id-fits _ (good .0 .machine .owner-in o (b .0)), omega arith, omega arith, omega arith)
       go (some (places.respect v a s)) q =
           let b = first-place m next outputs views (places.respect v a s) (judge-answers ∙ ap answer q) .breaks in
           let la = b .1 in let ls = b .2 in
-          let k = good .0 .machine .states-most in let j = good .0 .machine .actions-most in
+          let k = good .0 .machine .sizes .states-most in let j = good .0 .machine .sizes .actions-most in
           (id-fits v (b .0), omega arith, omega arith)
       go (some (places.step v a s u)) q =
           let b = first-place m next outputs views (places.step v a s u) (judge-answers ∙ ap answer q) .breaks in
           let la = b .1 in let ls = b .3 in let lu = b .4 in
-          let k = good .0 .machine .states-most in let j = good .0 .machine .actions-most in
+          let k = good .0 .machine .sizes .states-most in let j = good .0 .machine .sizes .actions-most in
           (id-fits v (b .0), omega arith, omega arith, omega arith)
 
   arrows-small : SmallPairs arrows
   unfolding arrowsBy
   arrows-small = go (neededList M) (λ v u h. let o = needed-list M (closed (m .machine) next outputs (good .0)) .only v u h in (o .0, o .1))
     where
-      go : (l : List Arrow) → ((v u : ℕ) → Member (arrow v u) l → (v < boxes) × (u < boxes)) → SmallPairs (arrowsBy (m .ids) l)
+      go : (l : List Arrow) → ((v u : ℕ) → Member (arrow v u) l → (v < z .boxes) × (u < z .boxes)) → SmallPairs (arrowsBy (m .ids) l)
       go [] h = tt
       go (x ∷ xs) h =
           let b = h (x .source) (x .target) (inl refl) in
           ((id-fits _ (b .0), id-fits _ (b .1)), go xs (λ v u k. h v u (inr k)))
 
   reach-small : reach ≤ STATES
-  reach-small = let h = count-le states (reached M) in let k = good .0 .machine .states-most in omega arith
+  reach-small = let h = count-le (z .states) (reached M) in let k = good .0 .machine .sizes .states-most in omega arith
 
   depth-small : (u : ℕ) → depthOf M u ≤ LARGEST
   depth-small u =
@@ -197,17 +198,17 @@ module _ (t : List ℕ) {states actions boxes start : ℕ} {p : Parts} (e : shee
       let k = reach-small in
       omega arith
 
-  depths-small : (n : ℕ) → n ≤ boxes → SmallPairs (tabulate n λ u. (idAt (m .ids) u, depthOf M u))
+  depths-small : (n : ℕ) → n ≤ z .boxes → SmallPairs (tabulate n λ u. (idAt (m .ids) u, depthOf M u))
   unfolding tabulate
   depths-small zero h = tt
   depths-small (suc n) h = small-append (tabulate n λ u. (idAt (m .ids) u, depthOf M u)) _ (depths-small n (omega arith)) ((id-fits n (omega arith), depth-small n), tt)
 
   pub all-small : Small (toldOf m next outputs views)
   unfolding toldOf
-  all-small = let k = reach-small in (views-small, arrows-small, depths-small boxes (le-refl boxes), omega arith)
+  all-small = let k = reach-small in (views-small, arrows-small, depths-small (z .boxes) (le-refl (z .boxes)), omega arith)
 
   -- ---- accepted is what the row says exactly where the conditions hold
-  pub accepted-told : (viewsRow judged-views ≡ viewsRow accepted) ↔ Conditions intransitive M (λ s. s < states) (policyOf m) (ByView (viewOf (m .machine) views))
+  pub accepted-told : (viewsRow judged-views ≡ viewsRow accepted) ↔ Conditions intransitive M (λ s. s < z .states) (policyOf m) (ByView (viewOf (m .machine) views))
   unfolding answer
   accepted-told =
       let c = accepted-exactly m next outputs views lengths fits in (

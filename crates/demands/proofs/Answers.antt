@@ -11,7 +11,7 @@ use Rattle.model.specs.declared.Model.{Model}
 use Rattle.model.proofs.Good.{model-good, table-good}
 use Rattle.sheet.specs.Reading.{given}
 use Rattle.purge.specs.Purged.{keptOf, written, purgedOf}
-use Rattle.purge.specs.declared.Kind.{Kind}
+use Rattle.model.specs.declared.Kind.{Kind}
 use Rattle.zarpalume.specs.Verdict.{callOf}
 use Rattle.demands.specs.Refusals.{Question}
 use Rattle.demands.specs.Answers.{Answers}
@@ -29,8 +29,8 @@ purged-good m kind position run kept l g q =
 pub answers : Answers ours
 unfolding callOf
 answers = record {
-  read = λ t next outputs views states actions boxes start p h e. right t next outputs views h ∙ ap given e;
-  label = λ t position states actions boxes start p e h. label-found t position states actions boxes start p e h;
+  read = λ t next outputs views z p h e. right t next outputs views h ∙ ap given e;
+  label = λ t position z p e h. label-found t position z p e h;
   purged = purged-good;
   reached = λ m next l g. flags-chosen m next ∙ sym (choose-yes _ (eq-eqb _ _ l) (choose-yes _ (table-good m next .1 g) (choose-yes _ refl refl)));
   verdict = λ t buffer l. sym (choose-yes _ (eq-eqb _ _ l) refl);

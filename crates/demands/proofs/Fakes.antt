@@ -69,7 +69,7 @@ smallest =
     ∷ 118 ∷ 105 ∷ 101 ∷ 119 ∷ 9 ∷ 49 ∷ 9 ∷ 48 ∷ 9 ∷ 48 ∷ 10 ∷ []
 
 isModel : Reading → Bool
-isModel (model states actions boxes start p) = true
+isModel (model z p) = true
 isModel (refusal n l) = false
 
 smallest-read : isModel (sheetText smallest) ≡ true
@@ -93,13 +93,13 @@ module _ (judge : Model → Table → Table → Table → Judgement) (d : Demand
   breaks-every-view h =
       let g = cases-sound .0 .0 in
       h (p1 .model) (next p1) (outputs p1) (views p1)
-      (d .accepted (p1 .model) (next p1) (outputs p1) (views p1) (three p1 g) (good-model p1 g) .1 (cases-hold .0 .judged .0))
+      (d .accepted (p1 .model) (next p1) (outputs p1) (views p1) (three p1 g) (good-model p1 g) .1 (cases-hold .0 .0 .0))
 
   pub accepts-every-view : ((m : Model) (next outputs views : Table) → judge m next outputs views ≡ judgements.Accepted) → ⊥
   accepts-every-view h =
       let g = cases-sound .1 .1 .1 .0 .0 in
       let k = d .accepted (p4 .model) (next p4) (outputs p4) (views p4) (three p4 g) (good-model p4 g) .0 (h (p4 .model) (next p4) (outputs p4) (views p4)) in
-      let b = cases-hold .1 .1 .1 .0 .judged .0 .breaks in
+      let b = cases-hold .1 .1 .1 .0 .0 .0 .breaks in
       b .5 (k .output .output _ _ _ (b .0) (b .2) (b .3) (b .4))
 
 -- ---- demand 3: what it fixes at a case
@@ -125,7 +125,7 @@ module _ (needed : Machine → Table → Table → Table → Needs × Table) (d 
         let w = found .4 in
         sym (take-append-drop (2 * found .0) (given .1)) ∙ rw (w .on-list, w .rest-zero, w .counted, list-unique (machine c) _ _ (w .needed) (n .0))
 
-    depth-is : (ds : List ℕ) → DepthsAre c ds → (u : ℕ) → u < c .model .machine .boxes → getD (given .0 .depths) u 0 ≡ getD ds u 0
+    depth-is : (ds : List ℕ) → DepthsAre c ds → (u : ℕ) → u < c .model .machine .sizes .boxes → getD (given .0 .depths) u 0 ≡ getD ds u 0
     depth-is ds h u l = depth-unique (machine c) u _ _ (found .4 .depth u l) (h .0 u l)
 
     reach-is : (n : ℕ) → ReachIs c n → given .0 .outcome ≡ Found (found .0) n
@@ -148,10 +148,10 @@ module _ (needed : Machine → Table → Table → Table → Needs × Table) (d 
   p12-arrows = (1, 2) ∷ []
 
   p2-list : given p2 register at-p2 .1 ≡ padded (arrowsOf p2 p2-arrows)
-  p2-list = list-is p2 register at-p2 p2-arrows (cases-hold .1 .0 .needed)
+  p2-list = list-is p2 register at-p2 p2-arrows (cases-hold .1 .0 .0)
 
   p12-list : given p12 chain at-p12 .1 ≡ padded (arrowsOf p12 p12-arrows)
-  p12-list = list-is p12 chain at-p12 p12-arrows (cases-hold .1 .1 .1 .1 .1 .1 .1 .1 .1 .1 .1 .0 .needed)
+  p12-list = list-is p12 chain at-p12 p12-arrows (cases-hold .1 .1 .1 .1 .1 .1 .1 .1 .1 .1 .1 .0 .0)
 
   p2-target : getD (given p2 register at-p2 .1) 1 0 ≡ 3
   unfolding padded flat range.first choose
@@ -173,7 +173,7 @@ module _ (needed : Machine → Table → Table → Table → Needs × Table) (d 
   -- so many rounds and no more, whatever is answered beside the list
   abbrev Rounds : ℕ → Type 0
   Rounds k = (m : Machine) (next outputs l : Table) (inside : ℕ → Bool) → Reach (machineOf m next outputs) inside →
-      needed m next outputs l .1 ≡ padded (arrowsUpto (neededIn (machineOf m next outputs) inside k) (m .boxes) (m .boxes))
+      needed m next outputs l .1 ≡ padded (arrowsUpto (neededIn (machineOf m next outputs) inside k) (m .sizes .boxes) (m .sizes .boxes))
 
   -- W's arrow to X is then the first
   pub outputs-only : Rounds 0 → ⊥
@@ -188,9 +188,9 @@ module _ (needed : Machine → Table → Table → Table → Needs × Table) (d 
 
   -- at P3 the depth of X is 1, and 9 states are reachable
   pub invented-depth : (k : ℕ) → k ≢ 1 → getD (given p3 register at-p3 .0 .depths) 3 0 ≡ k → ⊥
-  invented-depth k n e = n (sym e ∙ depth-is p3 register at-p3 (0 ∷ 0 ∷ 0 ∷ 1 ∷ []) (cases-hold .1 .1 .0 .depths) 3 (omega arith))
+  invented-depth k n e = n (sym e ∙ depth-is p3 register at-p3 (0 ∷ 0 ∷ 0 ∷ 1 ∷ []) (cases-hold .1 .1 .0 .0) 3 (omega arith))
 
   pub invented-reach : (count k : ℕ) → k ≢ 9 → given p3 register at-p3 .0 .outcome ≡ Found count k → ⊥
   invented-reach count k n e =
-      let f = sym e ∙ reach-is p3 register at-p3 9 (cases-hold .1 .1 .0 .reach) in
+      let f = sym e ∙ reach-is p3 register at-p3 9 (cases-hold .1 .1 .0 .1 .0) in
       let g : k ≡ 9 = cc in n g

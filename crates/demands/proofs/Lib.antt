@@ -16,3 +16,5 @@ pub mod Texts
 pub mod Printing
 pub mod ReadBack
 pub mod Sheets
+pub mod Meant
+pub mod Once

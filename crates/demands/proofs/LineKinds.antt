@@ -10,6 +10,8 @@ use lib.ListN.{length, getD}
 use borrow.Author.Tests.{eq-eqb, eqb-true, lt-ltb, ltb-true, le-leb, leb-true}
 use Rattle.laws.specs.Choice.{both}
 use Rattle.model.specs.Limits.{STATES, ACTIONS, BOXES, LABEL-BYTES, LARGEST-ID, LARGEST-NUMBER}
+use Rattle.model.specs.Made.{sizesFrom}
+use Rattle.model.specs.Good.{GoodSizes}
 use Rattle.text.specs.Number.{number, decimal}
 use Rattle.text.specs.Lines.{same}
 use Rattle.text.specs.declared.Number.{Number}
@@ -23,7 +25,7 @@ use Rattle.sheet.specs.declared.Flow.the-variants as flow
 use Rattle.sheet.specs.Words as words
 use Rattle.sheet.specs.Numbers.{onRecord, word, rest, recordOf}
 use Rattle.sheet.specs.Records.{sized, position, known, plain, labelGood, sheetLimits, actLimits, goLimits, arrowLimits, viewLimits, sheetLine, boxOf, boxLine, actLine, goLine, arrowLine, flowLine, viewLine}
-use Rattle.sheet.proofs.Good.{passed, kept-out, made, both-true, Sizes}
+use Rattle.sheet.proofs.Good.{passed, kept-out, made, both-true}
 use Rattle.demands.specs.Printed as paper
 use Rattle.demands.specs.Printed.{Row, Box, Step, Drawn, Known, Arrow, boxRow, actRow, goRow, arrowRow, viewRow}
 use Rattle.demands.proofs.Rows.{Plain, PlainRow, glue, decimal-plain, fields-back}
@@ -214,16 +216,16 @@ sizesRow states actions boxes start = words.sheet ∷ decimal states ∷ decimal
 sized-in : (most n : ℕ) → 0 < n → n ≤ most → sized most n ≡ true
 sized-in most n p l = rw (lt-ltb 0 n p, le-leb n most l) refl
 
-pub sheet-print : (states actions boxes start : ℕ) → Sizes states actions boxes start → sheetLine (glue (sizesRow states actions boxes start)) ≡ Numbers states actions boxes start
+pub sheet-print : (states actions boxes start : ℕ) → GoodSizes (sizesFrom states actions boxes start) → sheetLine (glue (sizesRow states actions boxes start)) ≡ Numbers states actions boxes start
 unfolding sheetLine decimals setAll isPlain both
 sheet-print states actions boxes start g =
-    let a = g .few-states in let b = g .few-actions in let c = g .few-boxes in let d = g .start-below in
+    let a = g .states-most in let b = g .actions-most in let c = g .boxes-most in let d = g .start-in in
     rw (
       record-print words.sheet sheetLimits (states ∷ actions ∷ boxes ∷ start ∷ []) (plain-of words.sheet refl)
           (fits, (fits, (fits, (fits, tt)))) (omega arith, (omega arith, (omega arith, (omega arith, tt)))),
-      sized-in STATES states (g .some-states) a,
-      sized-in ACTIONS actions (g .some-actions) b,
-      sized-in BOXES boxes (g .some-boxes) c,
+      sized-in STATES states (g .states-some) a,
+      sized-in ACTIONS actions (g .actions-some) b,
+      sized-in BOXES boxes (g .boxes-some) c,
       lt-ltb start states d,
     ) refl
 

@@ -34,14 +34,14 @@ as-rows t = go (sheetText t) refl
   where
     go : (rd : Reading) → sheetText t ≡ rd → said rd ≡ text (rowsOf (told rd))
     go (refusal n l) e = refused-rows n l
-    go (model states actions boxes start p) e = after.said t e
+    go (model z p) e = after.said t e
 
 all-small : (t : Bytes) → Small (told (sheetText t))
 all-small t = go (sheetText t) refl
   where
     go : (rd : Reading) → sheetText t ≡ rd → Small (told rd)
     go (refusal n l) e = let h = number-small n (number-of-text (refused-means t n l e)) in let k = line-small t e in (omega (arith, h), omega arith)
-    go (model states actions boxes start p) e = after.all-small t e
+    go (model z p) e = after.all-small t e
 
 -- ---- the first line
 abbrev firstLine : Bytes → Bytes
@@ -61,10 +61,10 @@ first-accepted t = go (sheetText t) refl
     go (refusal n l) e =
         let f = first-row _ (viewsRow accepted) [] (rows-plain (refused n l) .0) (views-plain accepted) in
         (λ h. apart 0 (f .0 (sym (line-of (refusal n l) e) ∙ h)) (λ z. omega arith), λ h. absurd h)
-    go (model states actions boxes start p) e =
+    go (model z p) e =
         let f = first-row _ (viewsRow accepted) _ (views-plain (after.judged-views t e)) (views-plain accepted) in
         let k = after.accepted-told t e in
-        (λ h. k .0 (f .0 (sym (line-of (model states actions boxes start p) e) ∙ h)), λ h. line-of (model states actions boxes start p) e ∙ f .1 (k .1 h))
+        (λ h. k .0 (f .0 (sym (line-of (model z p) e) ∙ h)), λ h. line-of (model z p) e ∙ f .1 (k .1 h))
 
 pub demand-on-bytes : DemandOnBytes verdict
 unfolding verdict

@@ -35,7 +35,7 @@ use Rattle.needs.specs.Listed.{padded}
 use Rattle.needs.specs.declared.Needs.{Needs}
 use Rattle.needs.specs.declared.Outcome.{Outcome}
 use Rattle.needs.specs.declared.Outcome.the-variants.{Found}
-use Rattle.purge.specs.declared.Kind.{Kind}
+use Rattle.model.specs.declared.Kind.{Kind}
 use Rattle.demands.specs.Answers.{Answers, Alike}
 use Rattle.demands.specs.Calls.{Bytes, Table, Calls}
 use Rattle.demands.specs.Demands.{Demand1, Demand2, Demand3}
@@ -113,8 +113,8 @@ module _ (calls : Calls) (d1 : Demand1 calls) (d2 : Demand2 (calls .judge)) (d3 
           ∙ sym (demand-1 .read-then t next outputs views n l (demand-1 .read t next outputs views n l .0 r))
 
       as-read : ThreeTables next outputs views → (rd : Reading) → sheetText t ≡ rd → calls .read t next outputs views ≡ ours .read t next outputs views
-      as-read h (model states actions boxes start p) e =
-          a .read t next outputs views states actions boxes start p h e ∙ sym (answers .read t next outputs views states actions boxes start p h e)
+      as-read h (model z p) e =
+          a .read t next outputs views z p h e ∙ sym (answers .read t next outputs views z p h e)
       as-read h (refusal n l) e = as-refused n l (text h (refused-means t n l e))
 
   label-only : (t : Bytes) (position : ℕ) → calls .label t position ≡ ours .label t position
@@ -124,10 +124,10 @@ module _ (calls : Calls) (d1 : Demand1 calls) (d2 : Demand2 (calls .judge)) (d3 
       as-refused n l r = d1 .label-then t position n l r ∙ sym (demand-1 .label-then t position n l r)
 
       go : (rd : Reading) → sheetText t ≡ rd → calls .label t position ≡ ours .label t position
-      go (model states actions boxes start p) e =
-          by-test (ltb position boxes)
-          (λ b. let h = ltb-true _ _ b in a .label t position states actions boxes start p e h ∙ sym (answers .label t position states actions boxes start p e h))
-          (λ b. as-refused 13 0 (thirteen states actions boxes start p e (ltb-false _ _ b)))
+      go (model z p) e =
+          by-test (ltb position (z .boxes))
+          (λ b. let h = ltb-true _ _ b in a .label t position z p e h ∙ sym (answers .label t position z p e h))
+          (λ b. as-refused 13 0 (thirteen z p e (ltb-false _ _ b)))
       go (refusal n l) e = as-refused n l (text (refused-means t n l e))
 
   judge-only : (m : Model) (next outputs views : Table) → calls .judge m next outputs views ≡ ours .judge m next outputs views

@@ -40,15 +40,21 @@ flows-back ids k arrows (l ∷ ls) n {arrows′} {ls′} {n′} h =
     go (flow.Not e) d back h = no-got h
     go flow.Other d back h = record { items = []; good = tt; lines-are = cc }
 
+-- what arrows make of flags, one after the other
+unfoldable pub drawAll : List ℕ → List Bool → List Drawn → List Bool
+drawAll ids arrows [] = arrows
+drawAll ids arrows (paper.flow i j ∷ xs) = drawAll ids (drawn (position ids i) (position ids j) arrows) xs
+drawAll ids arrows (paper.both i j ∷ xs) = drawAll ids (drawn (position ids j) (position ids i) (drawn (position ids i) (position ids j) arrows)) xs
+
 -- they end where a line draws nothing
 pub flows-print : (ids : List ℕ) (k : ℕ) (xs : List Drawn) (arrows : List Bool) (l : List ℕ) (ls : List (List ℕ)) (n : ℕ) → Each (Arrow ids) xs → flowLine ids l ≡ flow.Other →
-    (arrows′ : List Bool) × (m : ℕ) × (flows ids arrows (glues (rowsFrom (λ _. arrowRow) k xs) ++ (l ∷ ls)) n ≡ got arrows′ (l ∷ ls) m)
-unfolding flows glues rowsFrom
-flows-print ids k [] arrows l ls n h e = (arrows, n, rw e refl)
+    (m : ℕ) × (flows ids arrows (glues (rowsFrom (λ _. arrowRow) k xs) ++ (l ∷ ls)) n ≡ got (drawAll ids arrows xs) (l ∷ ls) m)
+unfolding flows glues rowsFrom drawAll
+flows-print ids k [] arrows l ls n h e = (n, rw e refl)
 flows-print ids k (paper.flow i j ∷ xs) arrows l ls n h e =
-    let f = flows-print ids (suc k) xs (drawn (position ids i) (position ids j) arrows) l ls (suc n) (h .1) e in (f .0, f .1, rw (flow-print ids (paper.flow i j) (h .0)) (f .2))
+    let f = flows-print ids (suc k) xs (drawn (position ids i) (position ids j) arrows) l ls (suc n) (h .1) e in (f .0, rw (flow-print ids (paper.flow i j) (h .0)) (f .1))
 flows-print ids k (paper.both i j ∷ xs) arrows l ls n h e =
-    let f = flows-print ids (suc k) xs (drawn (position ids j) (position ids i) (drawn (position ids i) (position ids j) arrows)) l ls (suc n) (h .1) e in (f .0, f .1, rw (flow-print ids (paper.both i j) (h .0)) (f .2))
+    let f = flows-print ids (suc k) xs (drawn (position ids j) (position ids i) (drawn (position ids i) (position ids j) arrows)) l ls (suc n) (h .1) e in (f .0, rw (flow-print ids (paper.both i j) (h .0)) (f .1))
 
 -- ---- boxes: the ids that the reader has stored are those of the boxes so far
 abbrev pub boxesLine : ℕ → List ℕ → List ℕ → Record

@@ -9,6 +9,9 @@ use lib.Dec.{eqb, ltb, leb}
 use lib.ListN.{length, getD, set, take, replicate, length-replicate}
 use borrow.Author.Tests.{eqb-true, leb-true}
 use Rattle.model.specs.Limits.{BOXES, ACTIONS, ARROWS, NEXT-ENTRIES, OUTPUT-ENTRIES, VIEW-ENTRIES, SHEET-BYTES, LARGEST-NUMBER}
+use Rattle.model.specs.Made.{sizesFrom}
+use Rattle.model.specs.Good.{GoodSizes}
+use Rattle.model.specs.declared.Sizes.{Sizes}
 use Rattle.text.specs.Lines.{lines}
 use Rattle.sheet.specs.declared.Record.{Record}
 use Rattle.sheet.specs.declared.Record.the-variants.{Numbers, Not}
@@ -16,7 +19,7 @@ use Rattle.sheet.specs.Numbers.{onRecord}
 use Rattle.sheet.specs.Records.{sized, position, sheetLine, actLine, goLine, viewLine}
 use Rattle.sheet.specs.Phases.{Got, got, refused, Steps, steps, boxes, acts, goes, selves, flows, views}
 use Rattle.sheet.specs.Reading.{onGot, Drawn, drawing, Parts, partsAs, parts, model, refusal, finish, sheetLines, zeros, sheetText}
-use Rattle.sheet.proofs.Good.{both-true, sheet-good, Sizes}
+use Rattle.sheet.proofs.Good.{both-true, sheet-good}
 use Rattle.demands.specs.Printed as paper
 use Rattle.demands.specs.Printed.{Row, Box, Step, Paper, Good, Each, Boxes, Known, Arrow, idsOf, boxRow, actRow, goRow, arrowRow, viewRow, rowsFrom, rowsOf, PrintedFrom}
 use Rattle.demands.proofs.Rows.{glue}
@@ -190,16 +193,16 @@ pub all-glues : (a b c d e : List Row) → glues (a ++ (b ++ (c ++ (d ++ e)))) �
 all-glues a b c d e =
     glues-append a _ ∙ ap (λ r. glues a ++ r) (glues-append b _ ∙ ap (λ r. glues b ++ r) (glues-append c _ ∙ ap (λ r. glues c ++ r) (glues-append d e)))
 
-module _ (t : List ℕ) (a b c d : ℕ) (z : Sizes a b c d) (ls : List (List ℕ)) (w : Body a b c ls) where
+module _ (t : List ℕ) (a b c d : ℕ) (z : GoodSizes (sizesFrom a b c d)) (ls : List (List ℕ)) (w : Body a b c ls) where
   abbrev pageOf : Paper
   pageOf = record { states = a; actions = b; start = d; boxes = w .bs; acts = w .rest .owns; steps = w .rest .gs; arrows = w .rest .xs; classes = w .rest .cs }
 
   page-good : Good pageOf
   page-good = record {
-    states-in = (z .some-states, z .few-states);
-    actions-in = (z .some-actions, z .few-actions);
-    boxes-in = rw (w .many) (z .some-boxes, z .few-boxes);
-    start-in = z .start-below;
+    states-in = (z .states-some, z .states-most);
+    actions-in = (z .actions-some, z .actions-most);
+    boxes-in = rw (w .many) (z .boxes-some, z .boxes-most);
+    start-in = z .start-in;
     boxes = w .good;
     acts-many = w .rest .acts-many;
     acts = w .rest .acts-good;
@@ -217,18 +220,18 @@ module _ (t : List ℕ) (a b c d : ℕ) (z : Sizes a b c d) (ls : List (List ℕ
       (all-glues (rowsFrom (λ _. boxRow) 0 (w .bs)) (rowsFrom (λ _. actRow) 0 (w .rest .owns)) (rowsFrom (goRow b) 0 (w .rest .gs))
       (rowsFrom (λ _. arrowRow) 0 (w .rest .xs)) (rowsFrom (viewRow (idsOf (w .bs)) a) 0 (w .rest .cs)) ∙ ap (λ r. glues (rowsFrom (λ _. boxRow) 0 (w .bs)) ++ r) (sym (w .rest .lines-are)) ∙ sym (w .lines-are))
 
-pub no-model : {X : Type 0} {n l a b c d : ℕ} {p : Parts} → refusal n l ≡ model a b c d p → X
-no-model h = let z : _≡_ {A = ℕ} 0 1 = cc in absurd (omega arith)
+pub no-model : {X : Type 0} {n l : ℕ} {z : Sizes} {p : Parts} → refusal n l ≡ model z p → X
+no-model h = let d : _≡_ {A = ℕ} 0 1 = cc in absurd (omega arith)
 
 record Finished (g : Got Parts) : Type 0 where
   p : Parts
   n : ℕ
   is : g ≡ got p [] n
 
-finished : (g : Got Parts) (a b c d : ℕ) {a′ b′ c′ d′ : ℕ} {p : Parts} → finish g (model a b c d) ≡ model a′ b′ c′ d′ p → Finished g
-finished (got p [] n) a b c d h = record { p = p; n = n; is = refl }
-finished (got p (l ∷ ls) n) a b c d h = no-model h
-finished (refused e n) a b c d h = no-model h
+finished : (g : Got Parts) (z : Sizes) {y : Sizes} {p : Parts} → finish g (model z) ≡ model y p → Finished g
+finished (got p [] n) z h = record { p = p; n = n; is = refl }
+finished (got p (l ∷ ls) n) z h = no-model h
+finished (refused e n) z h = no-model h
 
 abbrev pub emptySteps : Steps
 emptySteps = steps (zeros NEXT-ENTRIES) (zeros OUTPUT-ENTRIES)
@@ -236,17 +239,17 @@ emptySteps = steps (zeros NEXT-ENTRIES) (zeros OUTPUT-ENTRIES)
 abbrev pub fitting : List ℕ → Bool
 fitting t = sized SHEET-BYTES (length t) && eqb (getD t (length t - 1) 0) 10
 
-from-lines : (t : List ℕ) → fitting t ≡ true → (ls : List (List ℕ)) → lines t ≡ ls → {a b c d : ℕ} {p : Parts} → sheetLines emptySteps (zeros VIEW-ENTRIES) ls ≡ model a b c d p → PrintedFrom t
+from-lines : (t : List ℕ) → fitting t ≡ true → (ls : List (List ℕ)) → lines t ≡ ls → {y : Sizes} {p : Parts} → sheetLines emptySteps (zeros VIEW-ENTRIES) ls ≡ model y p → PrintedFrom t
 unfolding sheetLines
 from-lines t q [] e h = no-model h
-from-lines t q (l ∷ ls) e {a = a′} {b = b′} {c = c′} {d = d′} {p} h = go (sheetLine l) refl h
+from-lines t q (l ∷ ls) e {y} {p} h = go (sheetLine l) refl h
   where
-    go : (r : Record) → sheetLine l ≡ r → onRecord r (λ a b c d. finish (parts a b c emptySteps (zeros VIEW-ENTRIES) ls 2) (model a b c d)) (λ e. refusal e 1) ≡ model a′ b′ c′ d′ p → PrintedFrom t
+    go : (r : Record) → sheetLine l ≡ r → onRecord r (λ a b c d. finish (parts a b c emptySteps (zeros VIEW-ENTRIES) ls 2) (model (sizesFrom a b c d))) (λ e. refusal e 1) ≡ model y p → PrintedFrom t
     go (Not n) s h = no-model h
     go (Numbers a b c d) s h =
         let z = sheet-good l s in
-        let f = finished (parts a b c emptySteps (zeros VIEW-ENTRIES) ls 2) a b c d h in
-        let w = body-back a b emptySteps (zeros VIEW-ENTRIES) c (z .few-boxes) ls 2 (f .is) in
+        let f = finished (parts a b c emptySteps (zeros VIEW-ENTRIES) ls 2) (sizesFrom a b c d) h in
+        let w = body-back a b emptySteps (zeros VIEW-ENTRIES) c (z .boxes-most) ls 2 (f .is) in
         let k = both-true (sized SHEET-BYTES (length t)) (eqb (getD t (length t - 1) 0) 10) q in
         record {
           page = pageOf t a b c d z ls w;
@@ -256,10 +259,10 @@ from-lines t q (l ∷ ls) e {a = a′} {b = b′} {c = c′} {d = d′} {p} h = 
           short = leb-true _ _ (both-true (ltb 0 (length t)) (leb (length t) SHEET-BYTES) (k .0) .1);
         }
 
-pub model-printed : (t : List ℕ) {a b c d : ℕ} {p : Parts} → sheetText t ≡ model a b c d p → PrintedFrom t
+pub model-printed : (t : List ℕ) {z : Sizes} {p : Parts} → sheetText t ≡ model z p → PrintedFrom t
 unfolding sheetText
-model-printed t {a} {b} {c} {d} {p} h = go (fitting t) refl h
+model-printed t {z} {p} h = go (fitting t) refl h
   where
-    go : (u : Bool) → fitting t ≡ u → cond u (sheetLines emptySteps (zeros VIEW-ENTRIES) (lines t)) (refusal 1 0) ≡ model a b c d p → PrintedFrom t
+    go : (u : Bool) → fitting t ≡ u → cond u (sheetLines emptySteps (zeros VIEW-ENTRIES) (lines t)) (refusal 1 0) ≡ model z p → PrintedFrom t
     go true q h = from-lines t q (lines t) refl h
     go false q h = no-model h

@@ -12,6 +12,7 @@ use borrow.Author.Tests.{eqb-true, ltb-true, ltb-false, lt-ltb, le-ltb, leb-true
 use Rattle.laws.specs.Choice.{both, either, choose}
 use Rattle.laws.proofs.Tests.{by-test, not-both, both-true, either-true}
 use Rattle.model.specs.Limits.{NEXT-ENTRIES, OUTPUT-ENTRIES, VIEW-ENTRIES, VERDICT-BYTES}
+use Rattle.model.specs.declared.Sizes.{Sizes}
 use Rattle.text.specs.Lines.{same}
 use Rattle.sheet.specs.Words as words
 use Rattle.sheet.specs.Numbers.{word}
@@ -130,7 +131,7 @@ module _ (t next outputs views : List ℕ) where
       (λ f. moved e (ten (λ h. not-both (lengths-test .1 h) f)))
     where
       as-read : ThreeTables next outputs views → (rd : Reading) → sheetText t ≡ rd → answerOf (given rd) ≡ answers.Refused n l → TextRefusal (ThreeTables next outputs views) t n l
-      as-read h (model states actions boxes start p) q o = absurd (let z : _≡_ {A = ℕ} 0 1 = cc in omega arith)
+      as-read h (model z p) q o = absurd (let d : _≡_ {A = ℕ} 0 1 = cc in omega arith)
       as-read h (refusal n′ l′) q o = moved e (text h (refused-means t n′ l′ q))
 
   pub read-refused : (n l : ℕ) → TextRefusal (ThreeTables next outputs views) t n l ↔ (answerOf answered ≡ answers.Refused n l)
@@ -144,16 +145,16 @@ module _ (t : List ℕ) (position : ℕ) where
   pub label-whole : {n l : ℕ} → LabelRefusal t position n l → label t position ≡ labelled [] 0 n l
   unfolding labelFound
   label-whole (text r) = ap (λ rd. labelOf t (foundIn rd t position)) (means-refused t _ _ r)
-  label-whole (thirteen states actions boxes start p e h) = ap (λ rd. labelOf t (foundIn rd t position)) e ∙ rw (le-ltb _ _ h) refl
+  label-whole (thirteen z p e h) = ap (λ rd. labelOf t (foundIn rd t position)) e ∙ rw (le-ltb _ _ h) refl
 
   some-number : {n l : ℕ} → LabelRefusal t position n l → 0 < n
   some-number (text r) = number-small _ (number-of-text r) .0
-  some-number (thirteen states actions boxes start p e h) = omega arith
+  some-number (thirteen z p e h) = omega arith
 
-  pub label-found : (states actions boxes start : ℕ) (p : Parts) → sheetText t ≡ model states actions boxes start p → position < boxes →
+  pub label-found : (z : Sizes) (p : Parts) → sheetText t ≡ model z p → position < z .boxes →
       label t position ≡ labelOf t (placed (labelPlace t position))
   unfolding labelFound
-  label-found states actions boxes start p e h = ap (λ rd. labelOf t (foundIn rd t position)) e ∙ rw (lt-ltb _ _ h) refl
+  label-found z p e h = ap (λ rd. labelOf t (foundIn rd t position)) e ∙ rw (lt-ltb _ _ h) refl
 
   moved-label : {n l n′ l′ : ℕ} → label t position .number ≡ n′ → label t position .line ≡ l′ → LabelRefusal t position n l → LabelRefusal t position n′ l′
   moved-label a b r = let w = label-whole r in rw (← a, ← b, w) r
@@ -162,10 +163,10 @@ module _ (t : List ℕ) (position : ℕ) where
   label-refused n l = (λ r. (some-number r, ap (λ x. x .number) (label-whole r), ap (λ x. x .line) (label-whole r)), λ h. from h (sheetText t) refl)
     where
       from : (0 < n) × (label t position .number ≡ n) × (label t position .line ≡ l) → (rd : Reading) → sheetText t ≡ rd → LabelRefusal t position n l
-      from h (model states actions boxes start p) q =
-          by-test (ltb position boxes)
-          (λ b. let z : 0 ≡ n = sym (ap (λ x. x .number) (label-found states actions boxes start p q (ltb-true _ _ b))) ∙ h .1 in absurd (omega (arith, h .0)))
-          (λ b. moved-label (h .1) (h .2) (thirteen states actions boxes start p q (ltb-false _ _ b)))
+      from h (model z p) q =
+          by-test (ltb position (z .boxes))
+          (λ b. let d : 0 ≡ n = sym (ap (λ x. x .number) (label-found z p q (ltb-true _ _ b))) ∙ h .1 in absurd (omega (arith, h .0)))
+          (λ b. moved-label (h .1) (h .2) (thirteen z p q (ltb-false _ _ b)))
       from h (refusal n′ l′) q = moved-label (h .1) (h .2) (text (refused-means t n′ l′ q))
 
 -- ---- the verdict

@@ -27,7 +27,7 @@ use Rattle.needs.specs.Answered.{foundIn, neededOf, listOf}
 use Rattle.needs.specs.Listed.{padded}
 use Rattle.needs.specs.declared.Needs.{Needs}
 use Rattle.needs.specs.declared.Outcome.{Outcome}
-use Rattle.purge.specs.declared.Kind.{Kind}
+use Rattle.model.specs.declared.Kind.{Kind}
 use Rattle.purge.specs.declared.Answer.{Answer}
 use Rattle.purge.specs.declared.Answer.the-variants as purges
 use Rattle.purge.specs.Purged.{namesActions, asked, keptOf, Result, result, written, purgedOf}
@@ -150,7 +150,7 @@ module _ (m : Machine) (next : List ℕ) where
   both-parts outcome flags = (outcome, flags)
 
   abbrev pub reachable : states.Outcome × List Bool
-  reachable = both-parts states′.Found (tabulate STATES λ s. both (ltb s (m .states)) (reached (moving m next) s))
+  reachable = both-parts states′.Found (tabulate STATES λ s. both (ltb s (m .sizes .states)) (reached (moving m next) s))
 
   abbrev pub none-reachable : ℕ → ℕ → states.Outcome × List Bool
   none-reachable n l = both-parts (states′.Refused n l) (replicate STATES false)

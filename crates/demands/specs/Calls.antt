@@ -8,7 +8,7 @@ use Rattle.sheet.specs.Reading as sheets
 use Rattle.sheet.specs.Label.{Label}
 use Rattle.views.specs.declared.Judgement.{Judgement}
 use Rattle.needs.specs.declared.Needs.{Needs}
-use Rattle.purge.specs.declared.Kind.{Kind}
+use Rattle.model.specs.declared.Kind.{Kind}
 use Rattle.purge.specs.Purged.{Result}
 use Rattle.reach.specs.declared.Outcome as states
 use Rattle.zarpalume.specs.Verdict.{Call}

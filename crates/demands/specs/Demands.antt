@@ -27,7 +27,7 @@ use Rattle.needs.specs.Demand.{Demand}
 use Rattle.needs.specs.declared.Needs.{Needs}
 use Rattle.needs.specs.declared.Outcome.the-variants.{Found, Refused}
 use Rattle.purge.specs.Purged.{result}
-use Rattle.purge.specs.declared.Kind.{Kind}
+use Rattle.model.specs.declared.Kind.{Kind}
 use Rattle.purge.specs.declared.Answer.the-variants as purges
 use Rattle.reach.specs.declared.Outcome.the-variants as states
 use Rattle.zarpalume.specs.Words as words
@@ -67,11 +67,11 @@ pub record Demand1 (calls : Calls) : Type 0 where
 pub record Demand2 (judge : Model → Table → Table → Table → Judgement) : Type 0 where
   pub accepted : (m : Model) (next outputs views : Table) → ThreeTables next outputs views → GoodModel m next →
       (judge m next outputs views ≡ judgements.Accepted) ↔
-      Conditions intransitive (machineOf (m .machine) next outputs) (λ s. s < m .machine .states) (policyOf m) (ByView (viewOf (m .machine) views))
+      Conditions intransitive (machineOf (m .machine) next outputs) (λ s. s < m .machine .sizes .states) (policyOf m) (ByView (viewOf (m .machine) views))
   pub broken : (m : Model) (next outputs views : Table) → ThreeTables next outputs views → GoodModel m next →
       ¬ (judge m next outputs views ≡ judgements.Accepted) →
       (p : Place) × (judge m next outputs views ≡ answer (some p))
-      × FirstBroken intransitive (machineOf (m .machine) next outputs) (λ s. s < m .machine .states) (policyOf m) (viewOf (m .machine) views) OfAny p
+      × FirstBroken intransitive (machineOf (m .machine) next outputs) (λ s. s < m .machine .sizes .states) (policyOf m) (viewOf (m .machine) views) OfAny p
   pub meaning : (m : Model) (next outputs views : Table) → ThreeTables next outputs views → GoodModel m next →
       judge m next outputs views ≡ judgements.Accepted → Secure intransitive (machineOf (m .machine) next outputs) (policyOf m)
 
@@ -85,9 +85,9 @@ pub record Demand3 (needed : Machine → Table → Table → Table → Needs × 
 -- the sheet says a model, and its views meet the conditions
 abbrev pub Meets : Reading → Type 0
 Meets (refusal number line) = ⊥
-Meets (model states actions boxes start p) =
-    Conditions intransitive (machineOf (modelOf states actions boxes start p .machine) (p .drawn .steps .next) (p .drawn .steps .outputs))
-    (λ s. s < states) (policyOf (modelOf states actions boxes start p)) (ByView (viewOf (modelOf states actions boxes start p .machine) (p .drawn .views)))
+Meets (model z p) =
+    Conditions intransitive (machineOf (modelOf z p .machine) (p .drawn .steps .next) (p .drawn .steps .outputs))
+    (λ s. s < z .states) (policyOf (modelOf z p)) (ByView (viewOf (modelOf z p .machine) (p .drawn .views)))
 
 -- a refusal is its line; the first line is `views`, tab, `accepted` exactly where the views meet the conditions; and equal bytes tell the same
 pub record DemandOnBytes (verdict : Bytes → Bytes) : Type 0 where

@@ -7,6 +7,7 @@ use lib.ListN.{length, getD, replicate}
 use Rattle.laws.specs.Choice.{choose}
 use Rattle.model.specs.Limits.{BOXES, NEXT-ENTRIES, OUTPUT-ENTRIES, VIEW-ENTRIES, LIST-ENTRIES, RUN-ACTIONS}
 use Rattle.model.specs.Good.{GoodTable, GoodDrawing}
+use Rattle.model.specs.declared.Sizes.{Sizes}
 use Rattle.model.specs.declared.Model.{Model}
 use Rattle.sheet.specs.Meaning.{RefusedText}
 use Rattle.sheet.specs.Reading.{Parts, model, sheetText}
@@ -26,9 +27,9 @@ GoodModel m next = GoodTable (m .machine) next × GoodDrawing m
 
 -- a box of the model, and a run of its actions that is not too long
 pub record Question (m : Model) (position : ℕ) (run : Bytes) : Type 0 where
-  pub box-in : position < m .machine .boxes
+  pub box-in : position < m .machine .sizes .boxes
   pub short : length run ≤ RUN-ACTIONS
-  pub named : (i : ℕ) → i < length run → getD run i 0 < m .machine .actions
+  pub named : (i : ℕ) → i < length run → getD run i 0 < m .machine .sizes .actions
 
 -- ---- what is not: a lent buffer's length, then the model, then what is asked of it
 pub data Refusal (lengths good asked : Type 0) : ℕ → ℕ → Type 0 where
@@ -48,7 +49,7 @@ pub data TextRefusal (lengths : Type 0) (t : Bytes) : ℕ → ℕ → Type 0 whe
 -- the text, then the position
 pub data LabelRefusal (t : Bytes) (position : ℕ) : ℕ → ℕ → Type 0 where
   text : {n l : ℕ} → RefusedText t n l → LabelRefusal t position n l
-  thirteen : (states actions boxes start : ℕ) (p : Parts) → sheetText t ≡ model states actions boxes start p → boxes ≤ position →
+  thirteen : (z : Sizes) (p : Parts) → sheetText t ≡ model z p → z .boxes ≤ position →
       LabelRefusal t position 13 0
 
 -- 10 leaves a lent buffer as it was, any other refusal makes it zero

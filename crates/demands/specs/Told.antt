@@ -46,5 +46,5 @@ toldOf m next outputs views =
 
 abbrev pub told : Reading → Told
 told (refusal number line) = refused number line
-told (model states actions boxes start p) =
-    toldOf (modelOf states actions boxes start p) (p .drawn .steps .next) (p .drawn .steps .outputs) (p .drawn .views)
+told (model z p) =
+    toldOf (modelOf z p) (p .drawn .steps .next) (p .drawn .steps .outputs) (p .drawn .views)

@@ -2,6 +2,7 @@
 use crate::LOST;
 use model::Machine;
 use model::Model;
+use model::Sizes;
 ghost use Prim.Native.Nat.{_≤_};
 ghost use lib.ListN.{length};
 
@@ -100,7 +101,7 @@ pub(crate) fn whole_machine(request: &[u8], at: &mut usize) -> Machine {
     let boxes = n8(request, at);
     let start = n8(request, at);
     let owners = owners(request, at);
-    Machine::new(states, actions, boxes, start, owners)
+    Machine::new(Sizes::new(states, actions, boxes, start), owners)
 }
 
 pub(crate) fn whole_model(request: &[u8], at: &mut usize) -> Model {

@@ -28,12 +28,9 @@ fn found(values: [usize; VALUES]) -> Told {
 
 pub(crate) fn sheet(answer: sheet::Answer) -> Told {
     match answer {
-        sheet::Answer::Model {
-            states,
-            actions,
-            boxes,
-            start,
-        } => found([states, actions, boxes, start]),
+        sheet::Answer::Model(sizes) => {
+            found([sizes.states, sizes.actions, sizes.boxes, sizes.start])
+        }
         sheet::Answer::Refused { number, line } => refused(number as usize, line),
     }
 }

@@ -12,8 +12,8 @@ use Rattle.model.specs.declared.Model.{Model}
 pub owned : (m : Machine) (next outputs : List ℕ) → GoodMachine m → Owned (machineOf m next outputs)
 owned m next outputs g = record { owners = g .owner-in; watchers = g .owner-in }
 
-pub closed : (m : Machine) (next outputs : List ℕ) → GoodTable m next → Closed (machineOf m next outputs) (λ s. s < m .states)
-closed m next outputs g = record { first = g .machine .start-in; next = λ s a ls la. g .next-in s a ls la }
+pub closed : (m : Machine) (next outputs : List ℕ) → GoodTable m next → Closed (machineOf m next outputs) (λ s. s < m .sizes .states)
+closed m next outputs g = record { first = g .machine .sizes .start-in; next = λ s a ls la. g .next-in s a ls la }
 
 pub reflexive : (m : Model) (next outputs : List ℕ) → GoodDrawing m → Reflexive (machineOf (m .machine) next outputs) (policyOf m)
 reflexive m next outputs g = g .self

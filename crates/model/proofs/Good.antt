@@ -40,22 +40,24 @@ machine-good m = (to, from)
         let t = sized-is _ _ .0 (d .0) in
         let u = sized-is _ _ .0 (f .0) in
         record {
-          states-some = s .0;
-          states-most = s .1;
-          actions-some = t .0;
-          actions-most = t .1;
-          boxes-some = u .0;
-          boxes-most = u .1;
-          start-in = ltb-true _ _ (f .1);
+          sizes = record {
+            states-some = s .0;
+            states-most = s .1;
+            actions-some = t .0;
+            actions-most = t .1;
+            boxes-some = u .0;
+            boxes-most = u .1;
+            start-in = ltb-true _ _ (f .1);
+          };
           owner-in = λ k l. ltb-true _ _ (every-at _ _ (a .1) k l);
         }
 
     from : GoodMachine m → machineFits m ≡ true
     from g =
         both-of
-        (both-of (sized-is _ _ .1 (g .states-some, g .states-most))
-        (both-of (sized-is _ _ .1 (g .actions-some, g .actions-most))
-        (both-of (sized-is _ _ .1 (g .boxes-some, g .boxes-most)) (lt-ltb _ _ (g .start-in)))))
+        (both-of (sized-is _ _ .1 (g .sizes .states-some, g .sizes .states-most))
+        (both-of (sized-is _ _ .1 (g .sizes .actions-some, g .sizes .actions-most))
+        (both-of (sized-is _ _ .1 (g .sizes .boxes-some, g .sizes .boxes-most)) (lt-ltb _ _ (g .sizes .start-in)))))
         (every-of _ _ (λ k l. lt-ltb _ _ (g .owner-in k l)))
 
 pub table-good : (m : Machine) (next : List ℕ) → (machineTableFits m next ≡ true) ↔ GoodTable m next

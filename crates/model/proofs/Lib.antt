@@ -1,2 +1,4 @@
+pub mod Limits
 pub mod Good
 pub mod Denoted
+pub mod HighestEntry

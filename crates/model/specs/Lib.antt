@@ -3,3 +3,4 @@ pub mod Made
 pub mod Denoted
 pub mod Refused
 pub mod Good
+pub mod Highest

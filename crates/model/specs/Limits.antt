@@ -1,5 +1,5 @@
--- The limits, each as the code's constant of that name.
-use Prim.Native.Nat.{ℕ}
+-- The limits, each as the code's constant of that name. Those of a model follow from three.
+use Prim.Native.Nat.{ℕ, _-_, _*_}
 
 abbrev pub STATES : ℕ
 STATES = 128
@@ -11,16 +11,22 @@ abbrev pub BOXES : ℕ
 BOXES = 16
 
 abbrev pub ARROWS : ℕ
-ARROWS = 256
+ARROWS = BOXES * BOXES
 
 abbrev pub NEXT-ENTRIES : ℕ
-NEXT-ENTRIES = 4096
+NEXT-ENTRIES = STATES * ACTIONS
 
 abbrev pub OUTPUT-ENTRIES : ℕ
-OUTPUT-ENTRIES = 4096
+OUTPUT-ENTRIES = STATES * ACTIONS
 
 abbrev pub VIEW-ENTRIES : ℕ
-VIEW-ENTRIES = 2048
+VIEW-ENTRIES = BOXES * STATES
+
+abbrev pub PAIRS : ℕ
+PAIRS = BOXES * (BOXES - 1)
+
+abbrev pub LIST-ENTRIES : ℕ
+LIST-ENTRIES = 2 * PAIRS
 
 abbrev pub LARGEST-ID : ℕ
 LARGEST-ID = 65535
@@ -36,9 +42,6 @@ LABEL-BYTES = 32
 
 abbrev pub RUN-ACTIONS : ℕ
 RUN-ACTIONS = 1024
-
-abbrev pub LIST-ENTRIES : ℕ
-LIST-ENTRIES = 480
 
 abbrev pub VERDICT-BYTES : ℕ
 VERDICT-BYTES = 8192

@@ -18,31 +18,31 @@ sized most n = both (ltb 0 n) (leb n most)
 -- the sizes and the start, and an owner for each action
 unfoldable pub sizesFit : Machine → Bool
 sizesFit m =
-    both (sized STATES (m .states)) (both (sized ACTIONS (m .actions)) (both (sized BOXES (m .boxes)) (ltb (m .start) (m .states))))
+    both (sized STATES (m .sizes .states)) (both (sized ACTIONS (m .sizes .actions)) (both (sized BOXES (m .sizes .boxes)) (ltb (m .sizes .start) (m .sizes .states))))
 
 unfoldable pub ownersFit : Machine → Bool
-ownersFit m = every (m .actions) λ a. ltb (ownerAt m a) (m .boxes)
+ownersFit m = every (m .sizes .actions) λ a. ltb (ownerAt m a) (m .sizes .boxes)
 
 unfoldable pub machineFits : Machine → Bool
 machineFits m = both (sizesFit m) (ownersFit m)
 
 -- every next state is a state
 unfoldable pub nextFits : Machine → List ℕ → Bool
-nextFits m next = every (m .states) λ s. every (m .actions) λ a. ltb (nextAt m next s a) (m .states)
+nextFits m next = every (m .sizes .states) λ s. every (m .sizes .actions) λ a. ltb (nextAt m next s a) (m .sizes .states)
 
 -- an id is small enough, and none before it is the same
 unfoldable pub idsFit : Model → Bool
 idsFit m =
-    every (m .machine .boxes) λ u.
+    every (m .machine .sizes .boxes) λ u.
     both (leb (getD (m .ids) u 0) LARGEST-ID) (every u λ v. not (eqb (getD (m .ids) v 0) (getD (m .ids) u 0)))
 
 -- every arrow, of all that there is room for, has its ends among the boxes, and no self-arrow of a box is missing
 unfoldable pub arrowsFit : Model → Bool
 arrowsFit m =
-    every BOXES λ v. every BOXES λ u. brings (policyOf m v u) (both (ltb v (m .machine .boxes)) (ltb u (m .machine .boxes)))
+    every BOXES λ v. every BOXES λ u. brings (policyOf m v u) (both (ltb v (m .machine .sizes .boxes)) (ltb u (m .machine .sizes .boxes)))
 
 unfoldable pub selvesFit : Model → Bool
-selvesFit m = every (m .machine .boxes) λ u. policyOf m u u
+selvesFit m = every (m .machine .sizes .boxes) λ u. policyOf m u u
 
 unfoldable pub drawingFits : Model → Bool
 drawingFits m = both (idsFit m) (both (arrowsFit m) (selvesFit m))

@@ -3,14 +3,15 @@ ghost use mathlib.Core.Path.{_≡_};
 ghost use mathlib.Core.Bool.{false, not};
 ghost use Prim.Native.Nat.{_+_, _*_, _<_, _≤_};
 ghost use lib.Dec.{eqb, ltb};
-ghost use lib.ListN.{getD};
+ghost use lib.ListN.{getD, length};
 ghost use Rattle.laws.specs.Choice.{both, brings};
 ghost use Rattle.laws.specs.Range.{every};
 ghost use Rattle.model.specs.Limits.{STATES, ACTIONS, BOXES};
-ghost use Rattle.model.specs.Made.{machineFrom, modelFrom};
+ghost use Rattle.model.specs.Made.{sizesFrom, machineFrom, modelFrom};
+ghost use Rattle.model.specs.Highest.{Higher, Highest};
 ghost use Rattle.model.specs.Refused.{sized, sizesFit, ownersFit, machineFits, nextFits, idsFit, arrowsFit, selvesFit, drawingFits, machineTableFits, modelFits, modelTableFits};
 
-// Sizes: 1 to this many.
+// The three limits that every other one of a model follows from.
 pub const STATES: usize = 128;
 
 pub const ACTIONS: usize = 32;
@@ -18,37 +19,51 @@ pub const ACTIONS: usize = 32;
 pub const BOXES: usize = 16;
 
 // An arrow from box v to box u stands at v * BOXES + u.
-pub const ARROWS: usize = 256;
+pub const ARROWS: usize = BOXES * BOXES;
 
 // The lengths of the lent tables: next states, outputs, view classes.
-pub const NEXT_ENTRIES: usize = 4096;
+pub const NEXT_ENTRIES: usize = STATES * ACTIONS;
 
-pub const OUTPUT_ENTRIES: usize = 4096;
+pub const OUTPUT_ENTRIES: usize = STATES * ACTIONS;
 
-pub const VIEW_ENTRIES: usize = 2048;
+pub const VIEW_ENTRIES: usize = BOXES * STATES;
+
+// The arrows from a box to another, and the entries of a needed list, two to an arrow.
+pub const PAIRS: usize = BOXES * (BOXES - 1);
+
+pub const LIST_ENTRIES: usize = 2 * PAIRS;
 
 // The largest id, and the largest of every other number of a sheet.
 pub const LARGEST_ID: u32 = 65535;
 
 pub const LARGEST_NUMBER: u32 = 65535;
 
-// A sheet's bytes, a label's bytes, a run's actions, the entries of a needed list, a verdict's bytes.
+// A sheet's bytes, a label's bytes, a run's actions, a verdict's bytes.
 pub const SHEET_BYTES: usize = 32768;
 
 pub const LABEL_BYTES: usize = 32;
 
 pub const RUN_ACTIONS: usize = 1024;
 
-pub const LIST_ENTRIES: usize = 480;
-
 pub const VERDICT_BYTES: usize = 8192;
 
-// A machine: its sizes, the state it starts in, and for each action the position of its box.
-pub struct Machine {
+// The kind of purge: by the arrows into one box, or through the boxes between.
+pub enum Kind {
+    Plain,
+    Intransitive,
+}
+
+// How many states, actions and boxes there are, and the state that a run starts in.
+pub struct Sizes {
     pub states: usize,
     pub actions: usize,
     pub boxes: usize,
     pub start: usize,
+}
+
+// A machine: its sizes, and for each action the position of its box.
+pub struct Machine {
+    pub sizes: Sizes,
     pub owners: [u8; ACTIONS],
 }
 
@@ -59,23 +74,24 @@ pub struct Model {
     pub arrows: [bool; ARROWS],
 }
 
-impl Machine {
-    pub fn new(
-        states: usize,
-        actions: usize,
-        boxes: usize,
-        start: usize,
-        owners: [u8; ACTIONS],
-    ) -> Self
-        ensures { λ r. ⌜ r ≡ machineFrom states actions boxes start owners ⌝ }
+impl Sizes {
+    pub fn new(states: usize, actions: usize, boxes: usize, start: usize) -> Self
+        ensures { λ r. ⌜ r ≡ sizesFrom states actions boxes start ⌝ }
     {
         Self {
             states,
             actions,
             boxes,
             start,
-            owners,
         }
+    }
+}
+
+impl Machine {
+    pub fn new(sizes: Sizes, owners: [u8; ACTIONS]) -> Self
+        ensures { λ r. ⌜ r ≡ machineFrom sizes owners ⌝ }
+    {
+        Self { sizes, owners }
     }
 }
 
@@ -156,10 +172,10 @@ fn is_sized(most: usize, n: usize) -> bool
 fn sizes_fit(machine: Machine) -> bool
     ensures { λ r. ⌜ r ≡ sizesFit machine ⌝ }
 {
-    if is_sized(STATES, machine.states) {
-        if is_sized(ACTIONS, machine.actions) {
-            if is_sized(BOXES, machine.boxes) {
-                return machine.start < machine.states;
+    if is_sized(STATES, machine.sizes.states) {
+        if is_sized(ACTIONS, machine.sizes.actions) {
+            if is_sized(BOXES, machine.sizes.boxes) {
+                return machine.sizes.start < machine.sizes.states;
             }
         }
     }
@@ -169,8 +185,8 @@ fn sizes_fit(machine: Machine) -> bool
 fn owners_fit(machine: Machine) -> bool
     ensures { λ r. ⌜ r ≡ ownersFit machine ⌝ }
 {
-    let actions = machine.actions;
-    let boxes = machine.boxes;
+    let actions = machine.sizes.actions;
+    let boxes = machine.sizes.boxes;
     let owners = machine.owners;
     'actions: for a in 0..actions {
         if boxes <= owner(&owners, a) {
@@ -189,6 +205,27 @@ fn machine_fits(machine: Machine) -> bool
     false
 }
 
+fn higher(x: u16, y: u16) -> u16
+    ensures { λ r. ⌜ Higher x y r ⌝ }
+{
+    if x < y {
+        return y;
+    }
+    x
+}
+
+// The highest of the first n entries, 0 where there is none.
+fn highest(table: &[u16], n: usize) -> u16
+    requires { ⌜ n ≤ length (now table) ⌝ }
+    ensures { λ r. ⌜ Highest n (now (table .entry)) r ⌝ }
+{
+    let mut top = 0u16;
+    'entries: for i in 0..n {
+        top = higher(top, table[i]);
+    }
+    top
+}
+
 // Whether the next states that stand in a row from `base` on are states.
 fn row_fits(next: &[u16], base: usize, actions: usize, states: usize) -> bool
     requires { ⌜ (base ≤ STATES * ACTIONS) × (actions ≤ ACTIONS) ⌝ }
@@ -202,12 +239,12 @@ fn row_fits(next: &[u16], base: usize, actions: usize, states: usize) -> bool
     true
 }
 
-fn next_fits(machine: Machine, next: &[u16]) -> bool
-    requires { ⌜ (machine .states ≤ STATES) × (machine .actions ≤ ACTIONS) ⌝ }
+fn rows_fit(machine: Machine, next: &[u16]) -> bool
+    requires { ⌜ (machine .sizes .states ≤ STATES) × (machine .sizes .actions ≤ ACTIONS) ⌝ }
     ensures { λ r. ⌜ r ≡ nextFits machine (now (next .entry)) ⌝ }
 {
-    let states = machine.states;
-    let actions = machine.actions;
+    let states = machine.sizes.states;
+    let actions = machine.sizes.actions;
     'states: for s in 0..states {
         if row_fits(next, s * actions, actions, states) {
             continue 'states;
@@ -215,6 +252,18 @@ fn next_fits(machine: Machine, next: &[u16]) -> bool
         return false;
     }
     true
+}
+
+// The same, by the highest of them where the table is long enough.
+fn next_fits(machine: Machine, next: &[u16]) -> bool
+    requires { ⌜ (machine .sizes .states ≤ STATES) × (machine .sizes .actions ≤ ACTIONS) × (0 < machine .sizes .states) ⌝ }
+    ensures { λ r. ⌜ r ≡ nextFits machine (now (next .entry)) ⌝ }
+{
+    let n = machine.sizes.states * machine.sizes.actions;
+    if n <= next.len() {
+        return wide16(highest(next, n)) < machine.sizes.states;
+    }
+    rows_fit(machine, next)
 }
 
 // Whether no box before this one has its id.
@@ -232,7 +281,7 @@ fn id_is_new(ids: &[u32], position: usize) -> bool
 fn ids_fit(model: Model) -> bool
     ensures { λ r. ⌜ r ≡ idsFit model ⌝ }
 {
-    let boxes = model.machine.boxes;
+    let boxes = model.machine.sizes.boxes;
     let ids = model.ids;
     'boxes: for u in 0..boxes {
         if LARGEST_ID < id(&ids, u) {
@@ -276,7 +325,7 @@ fn targets_fit(arrows: &[bool], source: usize, boxes: usize) -> bool
 fn arrows_fit(model: Model) -> bool
     ensures { λ r. ⌜ r ≡ arrowsFit model ⌝ }
 {
-    let boxes = model.machine.boxes;
+    let boxes = model.machine.sizes.boxes;
     let arrows = model.arrows;
     'sources: for v in 0..BOXES {
         if targets_fit(&arrows, v, boxes) {
@@ -288,10 +337,10 @@ fn arrows_fit(model: Model) -> bool
 }
 
 fn selves_fit(model: Model) -> bool
-    requires { ⌜ model .machine .boxes ≤ BOXES ⌝ }
+    requires { ⌜ model .machine .sizes .boxes ≤ BOXES ⌝ }
     ensures { λ r. ⌜ r ≡ selvesFit model ⌝ }
 {
-    let boxes = model.machine.boxes;
+    let boxes = model.machine.sizes.boxes;
     let arrows = model.arrows;
     'boxes: for u in 0..boxes {
         if arrow(&arrows, u * BOXES + u) {
@@ -303,7 +352,7 @@ fn selves_fit(model: Model) -> bool
 }
 
 fn drawing_fits(model: Model) -> bool
-    requires { ⌜ model .machine .boxes ≤ BOXES ⌝ }
+    requires { ⌜ model .machine .sizes .boxes ≤ BOXES ⌝ }
     ensures { λ r. ⌜ r ≡ drawingFits model ⌝ }
 {
     if ids_fit(model) {

@@ -98,14 +98,14 @@ module _ (M : noninterference.Machine) (c : Closed M (λ s. s < M .states)) (ins
 
 -- ---- the whole answer
 module _ (m : Machine) (next outputs : List ℕ) (g : GoodTable m next) (set : Set) (w : Known (machineOf m next outputs) (has set)) where
-  pub size-same : size set ≡ count (m .states) (reached (machineOf m next outputs))
+  pub size-same : size set ≡ count (m .sizes .states) (reached (machineOf m next outputs))
   size-same =
-      count-beyond (has set) (m .states) STATES (g .machine .states-most) (λ s l. false-of (λ e. let k : s < m .states = w .small s e in omega arith))
+      count-beyond (has set) (m .sizes .states) STATES (g .machine .sizes .states-most) (λ s l. false-of (λ e. let k : s < m .sizes .states = w .small s e in omega arith))
       ∙ reach-same (machineOf m next outputs) (closed m next outputs g) (has set) (w .reach)
 
   pub found-is : {flags table : List Bool} {depths list : List ℕ} {n k : ℕ} → flags ≡ listed set →
-      SortedOut (machineOf m next outputs) (flagAt flags) table depths (m .boxes) →
-      Written list (arrowsUpto (wantedIn table) (m .boxes) (m .boxes)) n → k ≡ size set →
+      SortedOut (machineOf m next outputs) (flagAt flags) table depths (m .sizes .boxes) →
+      Written list (arrowsUpto (wantedIn table) (m .sizes .boxes) (m .sizes .boxes)) n → k ≡ size set →
       (record { outcome = Found n k; depths = depths } ≡ foundIn (machineOf m next outputs)) × (list ≡ padded (neededList (machineOf m next outputs)))
   found-is {flags} {table} {depths} {list} {n} {k} e s l z = (
     λ i. record { outcome = Found (pairs i) (reachable i); depths = levels i },
@@ -115,16 +115,16 @@ module _ (m : Machine) (next outputs : List ℕ) (g : GoodTable m next) (set : S
       r : Reach (machineOf m next outputs) (flagAt flags)
       r = subst (λ f. Reach (machineOf m next outputs) (flagAt f)) (sym e) (w .reach)
 
-      arrows : arrowsUpto (wantedIn table) (m .boxes) (m .boxes) ≡ neededList (machineOf m next outputs)
-      arrows = arrows-same (machineOf m next outputs) (closed m next outputs g) (flagAt flags) r (g .machine .boxes-most) s
+      arrows : arrowsUpto (wantedIn table) (m .sizes .boxes) (m .sizes .boxes) ≡ neededList (machineOf m next outputs)
+      arrows = arrows-same (machineOf m next outputs) (closed m next outputs g) (flagAt flags) r (g .machine .sizes .boxes-most) s
 
       levels : depths ≡ depthsOf (machineOf m next outputs)
-      levels = depths-same (machineOf m next outputs) (closed m next outputs g) (flagAt flags) r (g .machine .boxes-most) s
+      levels = depths-same (machineOf m next outputs) (closed m next outputs g) (flagAt flags) r (g .machine .sizes .boxes-most) s
 
       pairs : n ≡ length (neededList (machineOf m next outputs))
       pairs = l .count ∙ ap length arrows
 
-      reachable : k ≡ count (m .states) (reached (machineOf m next outputs))
+      reachable : k ≡ count (m .sizes .states) (reached (machineOf m next outputs))
       reachable = z ∙ size-same
 
 module _ (m : Machine) (next outputs list : List ℕ) where
@@ -186,7 +186,7 @@ pub told-needed : (m : Machine) (next outputs list : List ℕ) →
     told (neededOf m next outputs list .outcome)
     ≡ choose (lengthsFit next outputs list)
     (choose (machineTableFits m next)
-    (0 ∷ 0 ∷ length (neededList (machineOf m next outputs)) ∷ count (m .states) (reached (machineOf m next outputs)) ∷ []) (12 ∷ 0 ∷ 0 ∷ 0 ∷ []))
+    (0 ∷ 0 ∷ length (neededList (machineOf m next outputs)) ∷ count (m .sizes .states) (reached (machineOf m next outputs)) ∷ []) (12 ∷ 0 ∷ 0 ∷ 0 ∷ []))
     (10 ∷ 0 ∷ 0 ∷ 0 ∷ [])
 unfolding neededOf choose
 told-needed m next outputs list =

@@ -91,13 +91,13 @@ module _ (M : noninterference.Machine) (c : Closed M (λ s. s < M .states)) (w :
 -- the answer and the list of a call that is not refused
 pub demand-3 : (m : Machine) (next outputs list : List ℕ) → lengthsFit next outputs list ≡ true → machineTableFits m next ≡ true →
     (neededOf m next outputs list ≡ foundIn (machineOf m next outputs))
-    × Demand (machineOf m next outputs) (length (neededList (machineOf m next outputs))) (count (m .states) (reached (machineOf m next outputs)))
+    × Demand (machineOf m next outputs) (length (neededList (machineOf m next outputs))) (count (m .sizes .states) (reached (machineOf m next outputs)))
     (depthsOf (machineOf m next outputs)) (listOf m next outputs list)
 demand-3 m next outputs list e f = (
   sym (needed-found m next outputs list _ e f refl),
-  subst (Demand (machineOf m next outputs) (length (neededList (machineOf m next outputs))) (count (m .states) (reached (machineOf m next outputs))) (depthsOf (machineOf m next outputs)))
+  subst (Demand (machineOf m next outputs) (length (neededList (machineOf m next outputs))) (count (m .sizes .states) (reached (machineOf m next outputs))) (depthsOf (machineOf m next outputs)))
       (list-found m next outputs list _ e f refl)
-      (demand (machineOf m next outputs) (closed m next outputs g) (owned m next outputs (g .machine)) (g .machine .boxes-most)),
+      (demand (machineOf m next outputs) (closed m next outputs g) (owned m next outputs (g .machine)) (g .machine .sizes .boxes-most)),
 )
   where
     g : GoodTable m next

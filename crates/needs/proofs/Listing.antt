@@ -4,7 +4,7 @@ use mathlib.Core.Path.{_≡_, refl, sym, _∙_, ap, subst}
 use mathlib.Core.Bool.{Bool, true, false}
 use mathlib.Core.List.{List, [], _∷_, _++_, append-assoc, append-nil}
 use Prim.Native.Nat.{ℕ, zero, suc, _+_, _*_, _-_, _<_, _≤_}
-use native.Mathlib.Nat.{mul-le-mul, suc-mul, not-suc-le-zero}
+use native.Mathlib.Nat.{suc-mul, not-suc-le-zero}
 use native.Mathlib.Numerals.{add-one}
 use native.Mathlib.Omega.{arith}
 use borrow.Author.Fill.{fill-more}
@@ -17,9 +17,10 @@ use Rattle.laws.proofs.Range.{by-order}
 use Rattle.noninterference.specs.Needed.{Arrow, arrow}
 use Rattle.noninterference.specs.Rounds.{arrowsFrom, arrowsUpto}
 use Rattle.noninterference.proofs.Ascending.{upto-length}
-use Rattle.model.specs.Limits.{LIST-ENTRIES, BOXES}
+use Rattle.model.specs.Limits.{LIST-ENTRIES, BOXES, PAIRS}
+use Rattle.model.proofs.Limits.{pairs-most}
 use Rattle.needs.specs.Marks.{wantedIn}
-use Rattle.needs.specs.Listed.{PAIRS, flat, padded, Written}
+use Rattle.needs.specs.Listed.{flat, padded, Written}
 
 -- ---- the list is cleared
 pub filled-long : {list : List ℕ} {i e : ℕ} (l : List ℕ) → e ≡ length l → i ≤ e → list ≡ replicate i 0 ++ drop i l → length list ≡ length l
@@ -147,7 +148,7 @@ wanted-room {boxes} {v} {u} {k} table most lv lu t h =
     by-order v u (λ l. let x : length (arrowsFrom (wantedIn table) v u) < u = r .1 l in omega arith)
     (λ l. let x : length (arrowsFrom (wantedIn table) v u) ≤ u = r .0 in omega arith)
     (λ q. not-both (subst (λ x. wantedIn table v x ≡ true) (sym q) t) (wanted-self table v)) in
-    let d : suc v * (boxes - 1) ≤ 16 * 15 = mul-le-mul {n₁ = suc v} {m₁ = boxes - 1} {n₂ = BOXES} {m₂ = 15} (omega arith) (omega arith) in
+    let d : suc v * (boxes - 1) ≤ PAIRS = pairs-most lv most in
     let s : k ≡ length (arrowsUpto (wantedIn table) boxes v) + length (arrowsFrom (wantedIn table) v u) =
     h .count ∙ length-append (arrowsUpto (wantedIn table) boxes v) (arrowsFrom (wantedIn table) v u) in
     omega (arith, suc-mul v (boxes - 1))

@@ -123,12 +123,12 @@ module _ {actions : ℕ} {next c : List ℕ} {inside marks : List Bool} where
 
 -- ---- the states before each state
 pub record BeforesTo (actions : ℕ) (next : List ℕ) (before : List Bool) (s a : ℕ) : Type 0 where
-  pub long : length before ≡ 16384
+  pub long : length before ≡ STATES * STATES
   pub rows : (t e : ℕ) → t < s → e < actions → flagAt before (stepIn actions next t e * STATES + t) ≡ true
   pub row : (e : ℕ) → e < a → flagAt before (stepIn actions next s e * STATES + s) ≡ true
 
 module _ {actions : ℕ} {next : List ℕ} {before : List Bool} where
-  pub befores-none : length before ≡ 16384 → BeforesTo actions next before 0 0
+  pub befores-none : length before ≡ STATES * STATES → BeforesTo actions next before 0 0
   befores-none e = record { long = e; rows = λ t e l. absurd (not-suc-le-zero l); row = λ e l. absurd (not-suc-le-zero l) }
 
   module _ {s a : ℕ} (h : BeforesTo actions next before s a) where

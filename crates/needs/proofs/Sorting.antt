@@ -65,22 +65,22 @@ module _ (M : noninterference.Machine) (inside : ℕ → Bool) (w : Reach M insi
 module _ (m : Machine) (next outputs : List ℕ) {inside : ℕ → Bool} (w : Known (machineOf m next outputs) inside) where
   -- ---- a box with observers: class numbers tell what moves
   sources-told : {u k : ℕ} {c : ℕ → ℕ} → Refined (machineOf m next outputs) inside u c k → (v : ℕ) →
-      sources (m .owners) (stepIn (m .actions) next) (m .actions) c inside (m .states) v
-      ≡ some (m .states) (λ s. both (inside s) (some (m .actions) λ a. without (eqb (ownerAt m a) v) (alike (machineOf m next outputs) u k s (nextAt m next s a))))
+      sources (m .owners) (stepIn (m .sizes .actions) next) (m .sizes .actions) c inside (m .sizes .states) v
+      ≡ some (m .sizes .states) (λ s. both (inside s) (some (m .sizes .actions) λ a. without (eqb (ownerAt m a) v) (alike (machineOf m next outputs) u k s (nextAt m next s a))))
   unfolding sources movers both
-  sources-told {u} {k} {c} h v = some-same (m .states) _ _ (λ s l. by-test (inside s)
-      (λ i. ap (both (inside s)) (some-same (m .actions) _ _ (λ a la. ap (without (eqb (ownerAt m a) v))
+  sources-told {u} {k} {c} h v = some-same (m .sizes .states) _ _ (λ s l. by-test (inside s)
+      (λ i. ap (both (inside s)) (some-same (m .sizes .actions) _ _ (λ a la. ap (without (eqb (ownerAt m a) v))
       (tells inside (alike (machineOf m next outputs) u k) (alike-equivalent (machineOf m next outputs) inside w u k) c (h .classes)
       s (nextAt m next s a) i (inside-next (machineOf m next outputs) inside w u s a i la)))))
       (λ i. rw i))
 
   wanted-told : {u k : ℕ} {c : ℕ → ℕ} (table : List Bool) (v : ℕ) → Refined (machineOf m next outputs) inside u c k →
-      cellAt table v u ≡ sources (m .owners) (stepIn (m .actions) next) (m .actions) c inside (m .states) v →
+      cellAt table v u ≡ sources (m .owners) (stepIn (m .sizes .actions) next) (m .sizes .actions) c inside (m .sizes .states) v →
       wantedIn table v u ≡ neededIn (machineOf m next outputs) inside (depthIn (machineOf m next outputs) inside u) v u
   unfolding wantedIn neededIn
   wanted-told {u} {k} {c} table v h e =
       ap (both (not (eqb v u))) (e ∙ sources-told h v
-      ∙ ap (λ d. some (m .states) (λ s. both (inside s) (some (m .actions) λ a. without (eqb (ownerAt m a) v) (alike (machineOf m next outputs) u d s (nextAt m next s a))))) (h .depth))
+      ∙ ap (λ d. some (m .sizes .states) (λ s. both (inside s) (some (m .sizes .actions) λ a. without (eqb (ownerAt m a) v) (alike (machineOf m next outputs) u d s (nextAt m next s a))))) (h .depth))
 
   -- ---- one box after another
   pub sorted-none : SortedOut (machineOf m next outputs) inside (replicate ARROWS false) (replicate BOXES 0) 0
@@ -95,7 +95,7 @@ module _ (m : Machine) (next outputs : List ℕ) {inside : ℕ → Bool} (w : Kn
 
   module _ {table : List Bool} {depths : List ℕ} {u : ℕ} (h : SortedOut (machineOf m next outputs) inside table depths u) (lu : u < BOXES) where
     pub sorted-more : {c : ℕ → ℕ} {k : ℕ} {table′ : List Bool} → Refined (machineOf m next outputs) inside u c k →
-        Marked table table′ u (sources (m .owners) (stepIn (m .actions) next) (m .actions) c inside (m .states)) →
+        Marked table table′ u (sources (m .owners) (stepIn (m .sizes .actions) next) (m .sizes .actions) c inside (m .sizes .states)) →
         SortedOut (machineOf m next outputs) inside table′ (set depths u k) (u + 1)
     sorted-more {c} {k} {table′} r t = record {
       table-long = t .long;
@@ -110,14 +110,14 @@ module _ (m : Machine) (next outputs : List ℕ) {inside : ℕ → Bool} (w : Kn
       level = λ x l. getD-set-other depths u x k 0 (λ q. absurd (omega arith)) ∙ h .level x (omega arith);
     }
       where
-        empty : (v : ℕ) → v < BOXES → either (cellAt table v u) (sources (m .owners) (stepIn (m .actions) next) (m .actions) c inside (m .states) v)
-            ≡ sources (m .owners) (stepIn (m .actions) next) (m .actions) c inside (m .states) v
+        empty : (v : ℕ) → v < BOXES → either (cellAt table v u) (sources (m .owners) (stepIn (m .sizes .actions) next) (m .sizes .actions) c inside (m .sizes .states) v)
+            ≡ sources (m .owners) (stepIn (m .sizes .actions) next) (m .sizes .actions) c inside (m .sizes .states) v
         empty v lv = first-none (h .blank v u lv lu (omega arith))
 
         same : (v x : ℕ) → v < BOXES → x < BOXES → x ≢ u → wantedIn table′ v x ≡ wantedIn table v x
         same v x lv lx n = wanted-same table table′ v x (t .others v x lv lx n)
 
-    pub sorted-silent : some (m .actions) (λ a. eqb (getD (m .owners) a 0) u) ≡ false → SortedOut (machineOf m next outputs) inside table depths (u + 1)
+    pub sorted-silent : some (m .sizes .actions) (λ a. eqb (getD (m .owners) a 0) u) ≡ false → SortedOut (machineOf m next outputs) inside table depths (u + 1)
     sorted-silent e = record {
       table-long = h .table-long;
       depths-long = h .depths-long;
@@ -131,8 +131,8 @@ module _ (m : Machine) (next outputs : List ℕ) {inside : ℕ → Bool} (w : Kn
       level = λ x l. h .level x (omega arith);
     }
       where
-        none : (o : ℕ) → o < m .actions → ownerAt m o ≡ u → ⊥
-        none o lo q = not-both (some-of (m .actions) (λ a. eqb (getD (m .owners) a 0) u) o lo (eq-eqb _ _ q)) e
+        none : (o : ℕ) → o < m .sizes .actions → ownerAt m o ≡ u → ⊥
+        none o lo q = not-both (some-of (m .sizes .actions) (λ a. eqb (getD (m .owners) a 0) u) o lo (eq-eqb _ _ q)) e
 
 -- ---- the loop over the boxes
 pub record Sorting (m : Machine) (next outputs : List ℕ) (inside : List Bool) (table : List Bool) (depths : List ℕ) (u : ℕ) : Type 0 where
@@ -145,32 +145,32 @@ pub sorting-none : {m : Machine} {next outputs : List ℕ} {inside : List Bool} 
 sorting-none {m} {next} {outputs} g w = record { fits = g; known = w; sorted = sorted-none m next outputs w }
 
 module _ {m : Machine} {next outputs : List ℕ} {inside table : List Bool} {depths : List ℕ} {u : ℕ} (h : Sorting m next outputs inside table depths u) where
-  pub box-small : m .boxes ≤ BOXES
-  box-small = h .fits .good .machine .boxes-most
+  pub box-small : m .sizes .boxes ≤ BOXES
+  box-small = h .fits .good .machine .sizes .boxes-most
 
-  pub owners-in : {owners : List ℕ} → owners ≡ m .owners → Owners (m .actions) owners
+  pub owners-in : {owners : List ℕ} → owners ≡ m .owners → Owners (m .sizes .actions) owners
   owners-in e = record {
-    owner-in = λ a l. let z : getD (m .owners) a 0 < m .boxes = h .fits .good .machine .owner-in a l in rw e (omega (arith, box-small));
+    owner-in = λ a l. let z : getD (m .owners) a 0 < m .sizes .boxes = h .fits .good .machine .owner-in a l in rw e (omega (arith, box-small));
   }
 
-  pub sorting-more : {owners : List ℕ} (c : List ℕ) {k : ℕ} {table′ : List Bool} → owners ≡ m .owners → u < m .boxes →
+  pub sorting-more : {owners : List ℕ} (c : List ℕ) {k : ℕ} {table′ : List Bool} → owners ≡ m .owners → u < m .sizes .boxes →
       Refined (machineOf m next outputs) (flagAt inside) u (entry c) k →
-      Marked table table′ u (sources owners (stepIn (m .actions) next) (m .actions) (entry c) (flagAt inside) (m .states)) →
+      Marked table table′ u (sources owners (stepIn (m .sizes .actions) next) (m .sizes .actions) (entry c) (flagAt inside) (m .sizes .states)) →
       Sorting m next outputs inside table′ (set depths u k) (u + 1)
   sorting-more {owners} c {k} {table′} e l r t = record {
     fits = h .fits;
     known = h .known;
     sorted = sorted-more m next outputs (h .known) (h .sorted) (omega (arith, box-small)) r
-        (subst (λ o. Marked table table′ u (sources o (stepIn (m .actions) next) (m .actions) (entry c) (flagAt inside) (m .states))) e t);
+        (subst (λ o. Marked table table′ u (sources o (stepIn (m .sizes .actions) next) (m .sizes .actions) (entry c) (flagAt inside) (m .sizes .states))) e t);
   }
 
-  pub sorting-silent : {owners : List ℕ} → owners ≡ m .owners → u < m .boxes → some (m .actions) (λ a. eqb (getD owners a 0) u) ≡ false →
+  pub sorting-silent : {owners : List ℕ} → owners ≡ m .owners → u < m .sizes .boxes → some (m .sizes .actions) (λ a. eqb (getD owners a 0) u) ≡ false →
       Sorting m next outputs inside table depths (u + 1)
   sorting-silent e l f = record {
     fits = h .fits;
     known = h .known;
-    sorted = sorted-silent m next outputs (h .known) (h .sorted) (omega (arith, box-small)) (subst (λ o. some (m .actions) (λ a. eqb (getD o a 0) u) ≡ false) e f);
+    sorted = sorted-silent m next outputs (h .known) (h .sorted) (omega (arith, box-small)) (subst (λ o. some (m .sizes .actions) (λ a. eqb (getD o a 0) u) ≡ false) e f);
   }
 
-  pub sorting-all : u ≡ m .boxes → SortedOut (machineOf m next outputs) (flagAt inside) table depths (m .boxes)
+  pub sorting-all : u ≡ m .sizes .boxes → SortedOut (machineOf m next outputs) (flagAt inside) table depths (m .sizes .boxes)
   sorting-all e = subst (λ n. SortedOut (machineOf m next outputs) (flagAt inside) table depths n) e (h .sorted)

@@ -6,10 +6,6 @@ use lib.ListN.{length, replicate}
 use Rattle.noninterference.specs.Needed.{Arrow}
 use Rattle.model.specs.Limits.{LIST-ENTRIES}
 
--- as many as the list has room for
-abbrev pub PAIRS : ℕ
-PAIRS = 240
-
 -- source and target of each arrow in turn
 unfoldable pub flat : List Arrow → List ℕ
 flat [] = []

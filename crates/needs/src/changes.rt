@@ -6,18 +6,18 @@ ghost use Rattle.model.specs.Limits.{STATES};
 ghost use Rattle.needs.specs.Tables.{Steps};
 ghost use Rattle.needs.specs.Classes.{Below};
 ghost use Rattle.needs.specs.Again.{Befores, Merged, Touched, Moved, Places, Covered};
-use crate::PAIRS;
+use crate::STATE_PAIRS;
 use crate::numbers::or;
 use crate::numbers::step;
 use crate::numbers::wide;
 use model::STATES;
 
 // The states that lead to each state.
-pub(crate) fn befores(next: &[u16], states: usize, actions: usize) -> [bool; PAIRS]
+pub(crate) fn befores(next: &[u16], states: usize, actions: usize) -> [bool; STATE_PAIRS]
     requires { ⌜ Steps states actions (now next) ⌝ }
     ensures { λ r. ⌜ Befores states actions (now (next .entry)) r ⌝ }
 {
-    let mut before = [false; PAIRS];
+    let mut before = [false; STATE_PAIRS];
     'states: for s in 0..states {
         'actions: for a in 0..actions {
             let x = step(next, states, actions, s, a);
@@ -28,7 +28,7 @@ pub(crate) fn befores(next: &[u16], states: usize, actions: usize) -> [bool; PAI
 }
 
 // Marks the states that lead to x too.
-pub(crate) fn merge(marks: &mut [bool; STATES], before: &[bool; PAIRS], x: usize)
+pub(crate) fn merge(marks: &mut [bool; STATES], before: &[bool; STATE_PAIRS], x: usize)
     requires { ⌜ (x < STATES) × (length (now marks) ≡ STATES) ⌝ }
     ensures { λ r. ⌜ Merged (now (before .entry)) (now (marks .entry)) (now (marks .exit)) x ⌝ }
 {
@@ -39,7 +39,7 @@ pub(crate) fn merge(marks: &mut [bool; STATES], before: &[bool; PAIRS], x: usize
 
 // Marks the states with a next state outside the part kept of its old class.
 pub(crate) fn touched(
-    before: &[bool; PAIRS],
+    before: &[bool; STATE_PAIRS],
     next: &[u16],
     c: &[u8; STATES],
     d: &[u8; STATES],
@@ -102,7 +102,11 @@ pub(crate) fn largest(c: &[u8; STATES], d: &[u8; STATES], states: usize) -> [u8;
 }
 
 // Marks the states that lead to one that moved.
-pub(crate) fn leading(before: &[bool; PAIRS], moved: &[u8; STATES], count: usize) -> [bool; STATES]
+pub(crate) fn leading(
+    before: &[bool; STATE_PAIRS],
+    moved: &[u8; STATES],
+    count: usize,
+) -> [bool; STATES]
     requires { ⌜ Places (now moved) count ⌝ }
     ensures { λ r. ⌜ Covered (now (before .entry)) (now (moved .entry)) r count ⌝ }
 {
@@ -116,7 +120,7 @@ pub(crate) fn leading(before: &[bool; PAIRS], moved: &[u8; STATES], count: usize
 
 // Marks the states to look at again. Where many moved, the largest part of each class is looked for and only what leads elsewhere is marked.
 pub(crate) fn again(
-    before: &[bool; PAIRS],
+    before: &[bool; STATE_PAIRS],
     next: &[u16],
     c: &[u8; STATES],
     d: &[u8; STATES],

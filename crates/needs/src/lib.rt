@@ -38,7 +38,7 @@ use model::STATES;
 use reach::Set;
 
 // A flag for each two states.
-pub(crate) const PAIRS: usize = 16384;
+pub(crate) const STATE_PAIRS: usize = STATES * STATES;
 
 // What the call found: how many pairs stand on the list, and how many states are reachable.
 pub enum Outcome {
@@ -63,26 +63,26 @@ fn refine(
     next: &[u16],
     outputs: &[u16],
     inside: &[bool; STATES],
-    before: &[bool; PAIRS],
+    before: &[bool; STATE_PAIRS],
     u: usize,
 ) -> Refinement
     requires { ⌜ Fitting machine (now next) (now outputs) ⌝ }
     requires { ⌜ Known (machineOf machine (now next) (now outputs)) (flagAt (now inside)) ⌝ }
-    requires { ⌜ Befores (machine .states) (machine .actions) (now next) (now before) ⌝ }
+    requires { ⌜ Befores (machine .sizes .states) (machine .sizes .actions) (now next) (now before) ⌝ }
     ensures { λ r. ⌜ Refined (machineOf machine (now (next .entry)) (now (outputs .entry))) (flagAt (now (inside .entry))) u (entry (r .classes)) (r .rounds) ⌝ }
 {
     let owners = machine.owners;
-    let own = own_actions(&owners, machine.actions, u);
+    let own = own_actions(&owners, machine.sizes.actions, u);
     let list = own.list;
     let mut classes = first_round(
         outputs,
         &list,
         own.count,
         inside,
-        machine.states,
-        machine.actions,
+        machine.sizes.states,
+        machine.sizes.actions,
     );
-    if one_class(inside, &classes, machine.states) {
+    if one_class(inside, &classes, machine.sizes.states) {
         return Refinement { classes, rounds: 0 };
     }
     let mut marks = [true; STATES];
@@ -93,8 +93,8 @@ fn refine(
             inside,
             &classes,
             &marks,
-            machine.states,
-            machine.actions,
+            machine.sizes.states,
+            machine.sizes.actions,
         );
         if outcome.same {
             return Refinement { classes, rounds };
@@ -108,8 +108,8 @@ fn refine(
             &finer,
             &moved,
             outcome.count,
-            machine.states,
-            machine.actions,
+            machine.sizes.states,
+            machine.sizes.actions,
         );
         classes = finer;
         rounds += 1;
@@ -126,14 +126,14 @@ struct Sorted {
 fn sort(machine: Machine, next: &[u16], outputs: &[u16], inside: &[bool; STATES]) -> Sorted
     requires { ⌜ Fitting machine (now next) (now outputs) ⌝ }
     requires { ⌜ Known (machineOf machine (now next) (now outputs)) (flagAt (now inside)) ⌝ }
-    ensures { λ r. ⌜ SortedOut (machineOf machine (now (next .entry)) (now (outputs .entry))) (flagAt (now (inside .entry))) (r .table) (r .depths) (machine .boxes) ⌝ }
+    ensures { λ r. ⌜ SortedOut (machineOf machine (now (next .entry)) (now (outputs .entry))) (flagAt (now (inside .entry))) (r .table) (r .depths) (machine .sizes .boxes) ⌝ }
 {
     let owners = machine.owners;
     let mut table = [false; ARROWS];
     let mut depths = [0usize; BOXES];
-    let before = befores(next, machine.states, machine.actions);
-    'boxes: for u in 0..machine.boxes {
-        if observes(&owners, machine.actions, u) {
+    let before = befores(next, machine.sizes.states, machine.sizes.actions);
+    'boxes: for u in 0..machine.sizes.boxes {
+        if observes(&owners, machine.sizes.actions, u) {
             let refinement = refine(machine, next, outputs, inside, &before, u);
             depths[u] = refinement.rounds;
             let classes = refinement.classes;
@@ -142,8 +142,8 @@ fn sort(machine: Machine, next: &[u16], outputs: &[u16], inside: &[bool; STATES]
                 &owners,
                 inside,
                 &classes,
-                machine.states,
-                machine.actions,
+                machine.sizes.states,
+                machine.sizes.actions,
                 u,
                 &mut table,
             );
@@ -176,7 +176,7 @@ fn found(machine: Machine, next: &[u16], outputs: &[u16], reached: Set, list: &m
     let sorted = sort(machine, next, outputs, &inside);
     let table = sorted.table;
     let depths = sorted.depths;
-    let count = write_list(&table, machine.boxes, list);
+    let count = write_list(&table, machine.sizes.boxes, list);
     let reach = reach::count(reached);
     Needs {
         outcome: Outcome::Found { count, reach },

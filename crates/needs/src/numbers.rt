@@ -5,7 +5,7 @@ ghost use Rattle.laws.specs.Choice.{either};
 ghost use Rattle.needs.specs.Tables.{stepIn, entry, Steps};
 
 // The number of no state.
-pub(crate) const NO_STATE: u8 = 128;
+pub(crate) const NO_STATE: u8 = model::STATES as u8;
 
 pub(crate) fn wide(x: u8) -> usize
     ensures { λ r. ⌜ r ≡ x ⌝ }

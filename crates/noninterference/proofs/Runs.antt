@@ -5,8 +5,9 @@ use mathlib.Core.Bool.{Bool, true, false}
 use mathlib.Core.List.{List, [], _∷_, _++_}
 use Prim.Native.Nat.{ℕ, _<_}
 use Rattle.laws.specs.Choice.{choose}
+use Rattle.laws.specs.Lists.{All}
 use Rattle.laws.proofs.Tests.{by-test}
-use Rattle.noninterference.specs.Machine.{Machine, Closed, Run, run, Reachable}
+use Rattle.noninterference.specs.Machine.{Machine, Owned, Closed, Run, run, Reachable}
 use Rattle.noninterference.specs.Purge.{purge}
 use Rattle.noninterference.specs.Conditions.{States, Likeness}
 
@@ -23,6 +24,10 @@ run-append M (a ∷ p) q s = run-append M p q (M .step s a)
 pub join-run : (M : Machine) (p q : List ℕ) → Run M p → Run M q → Run M (p ++ q)
 join-run M [] q hp hq = hq
 join-run M (a ∷ p) q hp hq = (hp .0, join-run M p q (hp .1) hq)
+
+pub owners-in : (M : Machine) → Owned M → (r : List ℕ) → Run M r → All (λ a. M .owner a < M .boxes) r
+owners-in M w [] hr = tt
+owners-in M w (a ∷ r) hr = (w .owners a (hr .0), owners-in M w r (hr .1))
 
 pub purge-run : (M : Machine) (keep : ℕ → List ℕ → Bool) (r : List ℕ) → Run M r → Run M (purge keep r)
 unfolding purge choose

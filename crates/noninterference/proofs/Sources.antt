@@ -1,12 +1,12 @@
--- Sources, one action on, and where the two kinds of purge agree (Lemmas 6 and 7, Theorem 9).
+-- Sources, one action on, and where the two kinds of purge agree (Lemmas 6 and 7).
 -- Assumes nothing.
 use mathlib.Core.Path.{_≡_, refl, sym, subst}
 use mathlib.Core.Logic.{_⊎_, inl, inr, ⊎-elim}
 use mathlib.Core.Bool.{true, false}
 use mathlib.Core.List.{List, [], _∷_}
-use Prim.Native.Nat.{ℕ}
+use Prim.Native.Nat.{ℕ, _<_}
 use Rattle.laws.specs.Choice.{choose}
-use Rattle.laws.specs.Lists.{any, elem}
+use Rattle.laws.specs.Lists.{All, any, elem}
 use Rattle.laws.proofs.Tests.{by-test, not-both, agree}
 use Rattle.laws.proofs.Lists.{elem-here, elem-there, elem-cases, elem-one, any-true, any-at}
 use Rattle.noninterference.specs.Purge.{Policy, plain, intransitive, purge, sources, keeps}
@@ -64,26 +64,35 @@ module _ (owner : ℕ → ℕ) (interferes : Policy) (u : ℕ) where
   source-first [] = source-self
   source-first (a ∷ r) = source-stays a r u (source-first r)
 
-  -- Lemma 6
-  pub source-interferes : Transitive interferes → interferes u u ≡ true → (r : List ℕ) (v : ℕ) →
-      elem v (sources owner interferes u r) ≡ true → interferes v u ≡ true
+  -- what holds of the box purged for and of the run's boxes holds of every source
+  pub source-in : (In : ℕ → Type 0) → In u → (r : List ℕ) → All (λ a. In (owner a)) r → (v : ℕ) → elem v (sources owner interferes u r) ≡ true → In v
   unfolding sources
-  source-interferes trans self [] v h = subst (λ x. interferes x u ≡ true) (sym (elem-one v u h)) self
-  source-interferes trans self (a ∷ r) v h =
-      ⊎-elim (λ q. source-interferes trans self r v q)
-      (λ q. let f = any-at (interferes (owner a)) (sources owner interferes u r) (q .1) in
-      subst (λ x. interferes x u ≡ true) (sym (q .0)) (trans (owner a) (f .0) u (f .2) (source-interferes trans self r (f .0) (f .1))))
-      (source-new a r v h)
+  source-in In hu [] i v h = subst In (sym (elem-one v u h)) hu
+  source-in In hu (a ∷ r) i v h =
+      ⊎-elim (λ q. source-in In hu r (i .1) v q) (λ q. subst In (sym (q .0)) (i .0)) (source-new a r v h)
 
-  -- Lemma 7
-  keep-agrees : Transitive interferes → interferes u u ≡ true → (a : ℕ) (r : List ℕ) →
-      keeps intransitive owner interferes u a r ≡ keeps plain owner interferes u a r
-  unfolding keeps
-  keep-agrees trans self a r =
-      agree _ _ (λ h. source-interferes trans self (a ∷ r) (owner a) h) (λ h. kept-of a r (any-true _ _ u (source-first r) h))
+  module _ (boxes : ℕ) (trans : Transitive boxes interferes) (hu : u < boxes) (self : interferes u u ≡ true) where
+    abbrev Inside : List ℕ → Type 0
+    Inside r = All (λ a. owner a < boxes) r
 
-  pub purges-agree : Transitive interferes → interferes u u ≡ true → (r : List ℕ) →
-      purge (keeps intransitive owner interferes u) r ≡ purge (keeps plain owner interferes u) r
-  unfolding purge
-  purges-agree trans self [] = refl
-  purges-agree trans self (a ∷ r) = rw (keep-agrees trans self a r, purges-agree trans self r)
+    -- Lemma 6
+    pub source-interferes : (r : List ℕ) → Inside r → (v : ℕ) → elem v (sources owner interferes u r) ≡ true → interferes v u ≡ true
+    unfolding sources
+    source-interferes [] i v h = subst (λ x. interferes x u ≡ true) (sym (elem-one v u h)) self
+    source-interferes (a ∷ r) i v h =
+        ⊎-elim (λ q. source-interferes r (i .1) v q)
+        (λ q. let f = any-at (interferes (owner a)) (sources owner interferes u r) (q .1) in
+        let box : f .0 < boxes = source-in (λ x. x < boxes) hu r (i .1) (f .0) (f .1) in
+        subst (λ x. interferes x u ≡ true) (sym (q .0))
+        (trans (owner a) (f .0) u (i .0) box hu (f .2) (source-interferes r (i .1) (f .0) (f .1))))
+        (source-new a r v h)
+
+    -- Lemma 7
+    keep-agrees : (a : ℕ) (r : List ℕ) → Inside (a ∷ r) → keeps intransitive owner interferes u a r ≡ keeps plain owner interferes u a r
+    unfolding keeps
+    keep-agrees a r i = agree _ _ (λ h. source-interferes (a ∷ r) i (owner a) h) (λ h. kept-of a r (any-true _ _ u (source-first r) h))
+
+    pub purges-agree : (r : List ℕ) → Inside r → purge (keeps intransitive owner interferes u) r ≡ purge (keeps plain owner interferes u) r
+    unfolding purge
+    purges-agree [] i = refl
+    purges-agree (a ∷ r) i = rw (keep-agrees a r i, purges-agree r (i .1))

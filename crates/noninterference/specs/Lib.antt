@@ -9,3 +9,4 @@ pub mod Needed
 pub mod Depth
 pub mod Reached
 pub mod Rounds
+pub mod Path

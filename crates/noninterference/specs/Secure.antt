@@ -19,5 +19,7 @@ Secure kind M interferes = SecureFor M (keeps kind (M .owner) interferes)
 abbrev pub Reflexive : Machine → Policy → Type 0
 Reflexive M interferes = (u : ℕ) → u < M .boxes → interferes u u ≡ true
 
-abbrev pub Transitive : Policy → Type 0
-Transitive interferes = (u v w : ℕ) → interferes u v ≡ true → interferes v w ≡ true → interferes u w ≡ true
+-- between boxes below a count: a policy that is read from a table says nothing of others
+abbrev pub Transitive : ℕ → Policy → Type 0
+Transitive boxes interferes =
+    (u v w : ℕ) → u < boxes → v < boxes → w < boxes → interferes u v ≡ true → interferes v w ≡ true → interferes u w ≡ true

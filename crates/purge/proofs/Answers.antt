@@ -12,7 +12,7 @@ use Rattle.model.specs.declared.Model.{Model}
 use Rattle.purge.specs.Purged.{Askable, namesActions}
 
 pub askable : {f g : Bool} (m : Model) (position : ℕ) (run : List ℕ) → f ≡ modelFits m → f ≡ true →
-    position < m .machine .boxes → g ≡ namesActions (m .machine .actions) run → g ≡ true → Askable m position run
+    position < m .machine .sizes .boxes → g ≡ namesActions (m .machine .sizes .actions) run → g ≡ true → Askable m position run
 askable m position run a b c d e = record { good = sym a ∙ b; position-in = c; named = sym d ∙ e }
 
 pub ruleset answers = (choose-yes, choose-no, told, both-of, both-no, both-not, lt-ltb, le-ltb, le-leb, lt-leb, eq-eqb, ne-eqb)

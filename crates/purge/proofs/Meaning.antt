@@ -12,13 +12,15 @@ use Rattle.laws.specs.Choice.{choose}
 use Rattle.laws.specs.Lists.{elem}
 use Rattle.noninterference.specs.Purge.{intransitive, sources, keeps}
 use Rattle.noninterference.specs.Secure.{Transitive}
+use Rattle.noninterference.proofs.Runs.{owners-in}
 use Rattle.noninterference.proofs.Sources.{purges-agree}
-use Rattle.model.specs.Denoted.{ownerAt, policyOf}
+use Rattle.model.specs.Denoted.{ownerAt, machineOf, policyOf}
 use Rattle.model.specs.declared.Model.{Model}
+use Rattle.model.proofs.Denoted.{owned}
 use Rattle.model.proofs.Good.{model-good}
 use Rattle.purge.specs.Sets.{marked, present}
 use Rattle.purge.specs.Purged.{Askable, keptOf}
-use Rattle.purge.specs.declared.Kind.the-variants.{Plain, Intransitive}
+use Rattle.model.specs.declared.Kind.the-variants.{Plain, Intransitive}
 use Rattle.purge.proofs.Kept.{present-marked}
 use Rattle.purge.proofs.Written.{named-run}
 
@@ -41,11 +43,13 @@ module _ (m : Model) (position : ℕ) (run : List ℕ) (h : Askable m position r
       (getD run i 0) 255)
   unfolding keptOf keeps
   kept-by-sources = (
-    sym (present-marked _ (m .machine .actions) (model-good m .0 (h .good) .0 .actions-most) run (named-run _ run (h .named))),
+    sym (present-marked _ (m .machine .sizes .actions) (model-good m .0 (h .good) .0 .sizes .actions-most) run (named-run _ run (h .named))),
     marked-at (keeps intransitive (ownerAt (m .machine)) (policyOf m) position) run,
   )
 
-  pub kinds-agree : Transitive (policyOf m) → keptOf m Intransitive position run ≡ keptOf m Plain position run
+  pub kinds-agree : Transitive (m .machine .sizes .boxes) (policyOf m) → keptOf m Intransitive position run ≡ keptOf m Plain position run
   unfolding keptOf
   kinds-agree trans =
-      purges-agree (ownerAt (m .machine)) (policyOf m) position trans (model-good m .0 (h .good) .1 .self position (h .position-in)) run
+      let good = model-good m .0 (h .good) in
+      purges-agree (ownerAt (m .machine)) (policyOf m) position (m .machine .sizes .boxes) trans (h .position-in) (good .1 .self position (h .position-in)) run
+      (owners-in (machineOf (m .machine) [] []) (owned (m .machine) [] [] (good .0)) run (named-run _ run (h .named)))

@@ -76,8 +76,11 @@ pack-small test (suc n) v =
     by-test (test v) (λ e. rw e (omega (arith, pow-suc 2 n))) (λ e. rw e (omega (arith, pow-suc 2 n)))
 
 -- ---- a loop that packs from the highest number down
-pub pack-fits : (test : ℕ → Bool) (n v : ℕ) {set : ℕ} → n ≤ BOXES → set ≡ pack test v n → set < 65536
-pack-fits test n v l e = subst (λ x. x < 65536) (sym e) (lt-of-lt-of-le (pack-small test n v) (pow-mono l))
+pub pack-fits : (test : ℕ → Bool) (n v : ℕ) {set : ℕ} → n < BOXES → set ≡ pack test v n → set * 2 + 1 < 2 ^ 32
+pack-fits test n v {set} l e =
+    let h : set < 2 ^ n = subst (λ x. x < 2 ^ n) (sym e) (pack-small test n v) in
+    let k : 2 ^ suc n ≤ 2 ^ 32 = pow-mono {j = 32} (omega arith) in
+    omega (arith, pow-suc 2 n)
 
 pub pack-more : (test : ℕ → Bool) (v : ℕ) {set b : ℕ} → 0 < v → v ≤ BOXES → set ≡ pack test v (BOXES - v) → b ≡ cond (test (v - 1)) 1 0 →
     set * 2 + b ≡ pack test (v - 1) (BOXES - (v - 1))

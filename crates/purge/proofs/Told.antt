@@ -11,9 +11,9 @@ use denote.Enum.Declared.{tagOf}
 use Rattle.model.specs.Limits.{BOXES}
 use Rattle.purge.specs.Sets.{pack}
 use Rattle.purge.specs.Purged.{Added}
-use Rattle.purge.specs.declared.Kind.{Kind}
-use Rattle.purge.specs.declared.Kind.the-variants.{Plain, Intransitive}
-use Rattle.purge.proofs.Kind as kinds
+use Rattle.model.specs.declared.Kind.{Kind}
+use Rattle.model.specs.declared.Kind.the-variants.{Plain, Intransitive}
+use Rattle.model.proofs.Kind as kinds
 
 no-sets : (n w : ℕ) → _≡_ {A = ℕ} (getD (replicate n 0) w 0) 0
 no-sets zero w = refl

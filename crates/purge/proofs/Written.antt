@@ -16,8 +16,8 @@ use Rattle.model.specs.declared.Model.{Model}
 use Rattle.model.proofs.Good.{model-good}
 use Rattle.purge.specs.Sets.{pack, touches, marked, present}
 use Rattle.purge.specs.Purged.{namesActions, Askable, Added, keptOf, result, written}
-use Rattle.purge.specs.declared.Kind.{Kind}
-use Rattle.purge.specs.declared.Kind.the-variants.{Plain, Intransitive}
+use Rattle.model.specs.declared.Kind.{Kind}
+use Rattle.model.specs.declared.Kind.the-variants.{Plain, Intransitive}
 use Rattle.purge.specs.declared.Answer.the-variants.{Kept}
 use Rattle.purge.proofs.Kept.{kept-plain, kept-intransitive}
 
@@ -35,24 +35,24 @@ unfolding namesActions
 named-run actions run e = all-of (λ a. a < actions) run (λ i l. ltb-true _ _ (every-at (length run) _ e i l))
 
 pub box-small : (m : Model) (position : ℕ) (run : List ℕ) → Askable m position run → position < BOXES
-box-small m position run h = let p = h .position-in in let g = model-good m .0 (h .good) .0 .boxes-most in omega arith
+box-small m position run h = let p = h .position-in in let g = model-good m .0 (h .good) .0 .sizes .boxes-most in omega arith
 
 module _ (m : Model) (position : ℕ) (run into : List ℕ) (target : ℕ) (h : Askable m position run)
     (aimed : target ≡ pack (λ v. getD (m .arrows) (v * BOXES + position) false) 0 BOXES) where
   good : GoodMachine (m .machine) × GoodDrawing m
   good = model-good m .0 (h .good)
 
-  owner-small : (a : ℕ) → a < m .machine .actions → ownerAt (m .machine) a < BOXES
-  owner-small a l = let p = good .0 .owner-in a l in let q = good .0 .boxes-most in omega arith
+  owner-small : (a : ℕ) → a < m .machine .sizes .actions → ownerAt (m .machine) a < BOXES
+  owner-small a l = let p = good .0 .owner-in a l in let q = good .0 .sizes .boxes-most in omega arith
 
   kept-is : (kind : Kind) → Added kind (m .arrows) into →
       present (marked (touches (m .machine .owners) into target) run) ≡ keptOf m kind position run
   unfolding keptOf
   kept-is Plain none =
-      kept-plain (m .machine .owners) (policyOf m) (m .machine .actions) position target (good .0 .actions-most) owner-small aimed
+      kept-plain (m .machine .owners) (policyOf m) (m .machine .sizes .actions) position target (good .0 .sizes .actions-most) owner-small aimed
       into none run (named-run _ run (h .named))
   kept-is Intransitive sets =
-      kept-intransitive (m .machine .owners) (policyOf m) (m .machine .actions) position target (good .0 .actions-most) owner-small aimed
+      kept-intransitive (m .machine .owners) (policyOf m) (m .machine .sizes .actions) position target (good .0 .sizes .actions-most) owner-small aimed
       into sets (λ a l. good .1 .self _ (good .0 .owner-in a l)) run (named-run _ run (h .named))
 
   pub kept-written : (kind : Kind) (marks : List ℕ) {count : ℕ} {kept : List ℕ} → Added kind (m .arrows) into →

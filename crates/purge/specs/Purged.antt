@@ -9,18 +9,14 @@ use Rattle.laws.specs.Choice.{both, choose}
 use Rattle.laws.specs.Range.{every}
 use Rattle.noninterference.specs.Purge as kinds
 use Rattle.model.specs.Limits.{RUN-ACTIONS, BOXES}
-use Rattle.model.specs.Denoted.{ownerAt, policyOf}
+use Rattle.model.specs.Denoted.{kindOf, ownerAt, policyOf}
 use Rattle.model.specs.Refused.{modelFits}
 use Rattle.model.specs.declared.Model.{Model}
 use Rattle.purge.specs.Sets.{pack}
-use Rattle.purge.specs.declared.Kind.{Kind}
-use Rattle.purge.specs.declared.Kind.the-variants.{Plain, Intransitive}
+use Rattle.model.specs.declared.Kind.{Kind}
+use Rattle.model.specs.declared.Kind.the-variants.{Plain, Intransitive}
 use Rattle.purge.specs.declared.Answer.{Answer}
 use Rattle.purge.specs.declared.Answer.the-variants.{Kept, Refused}
-
-abbrev pub kindOf : Kind → kinds.Kind
-kindOf Plain = kinds.plain
-kindOf Intransitive = kinds.intransitive
 
 -- each byte of the run names an action
 unfoldable pub namesActions : ℕ → List ℕ → Bool
@@ -29,13 +25,13 @@ namesActions actions run = every (length run) λ i. ltb (getD run i 0) actions
 -- the position is a box's, and the run is one of the machine's and not too long
 unfoldable pub asked : Model → ℕ → List ℕ → Bool
 asked m position run =
-    both (ltb position (m .machine .boxes)) (both (leb (length run) RUN-ACTIONS) (namesActions (m .machine .actions) run))
+    both (ltb position (m .machine .sizes .boxes)) (both (leb (length run) RUN-ACTIONS) (namesActions (m .machine .sizes .actions) run))
 
 -- what holds of a model and a run that are purged
 pub record Askable (m : Model) (position : ℕ) (run : List ℕ) : Type 0 where
   pub good : modelFits m ≡ true
-  pub position-in : position < m .machine .boxes
-  pub named : namesActions (m .machine .actions) run ≡ true
+  pub position-in : position < m .machine .sizes .boxes
+  pub named : namesActions (m .machine .sizes .actions) run ≡ true
 
 -- the sets that a source adds: none in a plain purge, else the boxes that interfere with it
 abbrev pub Added : Kind → List Bool → List ℕ → Type 0

@@ -1,4 +1,5 @@
 // Purged runs, plain and intransitive.
+use model::Kind;
 use model::Model;
 ghost use mathlib.Core.Path.{_≡_};
 ghost use mathlib.Core.Bool.{true, false, cond};
@@ -8,12 +9,6 @@ ghost use lib.ListN.{length, getD, replicate};
 ghost use Rattle.model.specs.Limits.{BOXES};
 ghost use Rattle.purge.specs.Purged.{namesActions, keptOf, result, written, purgedOf, Added, Askable};
 ghost use Rattle.purge.specs.Sets.{has, pack, touching, marked, touches, present};
-
-// The kind of purge that is asked for.
-pub enum Kind {
-    Plain,
-    Intransitive,
-}
 
 pub enum Answer {
     Kept { count: usize },
@@ -174,8 +169,8 @@ pub fn purged(model: Model, kind: Kind, position: usize, run: &[u8], kept: &mut 
         };
     }
     if model::model_fits(model) {
-        let boxes = model.machine.boxes;
-        let actions = model.machine.actions;
+        let boxes = model.machine.sizes.boxes;
+        let actions = model.machine.sizes.actions;
         if boxes <= position {
             return Answer::Refused {
                 number: 13,

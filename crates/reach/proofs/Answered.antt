@@ -70,12 +70,12 @@ module _ (m : Machine) (next : List ℕ) where
       r = reach (moving m next) (closed m next [] (table-good m next .0 f))
 
       there : (s : ℕ) → flagAt flags s ≡ true →
-          both (both (eqb (length next) NEXT-ENTRIES) (machineTableFits m next)) (both (ltb s (m .states)) (reached (moving m next) s)) ≡ true
+          both (both (eqb (length next) NEXT-ENTRIES) (machineTableFits m next)) (both (ltb s (m .sizes .states)) (reached (moving m next) s)) ≡ true
       there s h =
           let l = w .inside s h in
           both-of (both-of (eq-eqb _ _ e) f) (both-of (lt-ltb _ _ l) (r .all s (w .reach .right s l h)))
 
-      back : (s : ℕ) → both (both (eqb (length next) NEXT-ENTRIES) (machineTableFits m next)) (both (ltb s (m .states)) (reached (moving m next) s)) ≡ true →
+      back : (s : ℕ) → both (both (eqb (length next) NEXT-ENTRIES) (machineTableFits m next)) (both (ltb s (m .sizes .states)) (reached (moving m next) s)) ≡ true →
           flagAt flags s ≡ true
       back s h =
           let p = both-true _ _ (both-true _ _ h .1) in
@@ -87,19 +87,19 @@ reachedBy-same : (m : Machine) (next outputs : List ℕ) (k : ℕ) → reachedBy
 unfolding reachedBy
 reachedBy-same m next outputs zero = refl
 reachedBy-same m next outputs (suc k) =
-    ap {B = ℕ → Bool} (λ (f : ℕ → Bool). λ (s : ℕ). either (f s) (some (m .states) λ t. both (f t) (some (m .actions) λ a. eqb (nextAt m next t a) s))) (reachedBy-same m next outputs k)
+    ap {B = ℕ → Bool} (λ (f : ℕ → Bool). λ (s : ℕ). either (f s) (some (m .sizes .states) λ t. both (f t) (some (m .sizes .actions) λ a. eqb (nextAt m next t a) s))) (reachedBy-same m next outputs k)
 
 reached-same : (m : Machine) (next outputs : List ℕ) (s : ℕ) → reached (moving m next) s ≡ reached (machineOf m next outputs) s
 unfolding reached
-reached-same m next outputs s = ap (λ (f : ℕ → Bool). f s) (reachedBy-same m next outputs (m .states))
+reached-same m next outputs s = ap (λ (f : ℕ → Bool). f s) (reachedBy-same m next outputs (m .sizes .states))
 
 module _ (m : Machine) (next outputs : List ℕ) (e : length next ≡ NEXT-ENTRIES) (f : machineTableFits m next ≡ true) where
-  flag-says : (s : ℕ) → s < STATES → flagAt (flagsOf m next) s ≡ both (ltb s (m .states)) (reached (machineOf m next outputs) s)
+  flag-says : (s : ℕ) → s < STATES → flagAt (flagsOf m next) s ≡ both (ltb s (m .sizes .states)) (reached (machineOf m next outputs) s)
   unfolding flagsOf both
   flag-says s l =
       tabulate-at STATES _ s false l ∙ rw (eq-eqb _ _ e, f, reached-same m next outputs s)
 
-  pub flags-small : (s : ℕ) → flagAt (flagsOf m next) s ≡ true → s < m .states
+  pub flags-small : (s : ℕ) → flagAt (flagsOf m next) s ≡ true → s < m .sizes .states
   flags-small s h =
       by-test (ltb s STATES)
       (λ l. ltb-true _ _ (both-true _ _ (sym (flag-says s (ltb-true _ _ l)) ∙ h) .0))
@@ -112,7 +112,7 @@ module _ (m : Machine) (next outputs : List ℕ) (e : length next ≡ NEXT-ENTRI
   pub flags-reach : Reach (machineOf m next outputs) (flagAt (flagsOf m next))
   flags-reach = record {
     right = λ s l h. r .right s l (both-true _ _ (sym (flag-says s (omega (arith, most))) ∙ h) .1);
-    all = λ s h. let l : s < m .states = r .small s h in
+    all = λ s h. let l : s < m .sizes .states = r .small s h in
         flag-says s (omega (arith, most)) ∙ both-of (lt-ltb _ _ l) (r .all s h);
     small = r .small;
   }
@@ -120,8 +120,8 @@ module _ (m : Machine) (next outputs : List ℕ) (e : length next ≡ NEXT-ENTRI
       r : Reach (machineOf m next outputs) (reached (machineOf m next outputs))
       r = reach (machineOf m next outputs) (closed m next outputs (table-good m next .0 f))
 
-      most : m .states ≤ STATES
-      most = table-good m next .0 f .machine .states-most
+      most : m .sizes .states ≤ STATES
+      most = table-good m next .0 f .machine .sizes .states-most
 
   pub flags-say : (s : ℕ) → (flagAt (flagsOf m next) s ≡ true) ↔ Reachable (machineOf m next outputs) s
   flags-say s = (λ h. flags-reach .right s (flags-small s h) h, flags-reach .all s)

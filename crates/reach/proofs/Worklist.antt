@@ -38,31 +38,31 @@ one-of a b true e = inl (eqb-true a b e)
 one-of a b false e = inr (eqb-false a b e)
 
 module _ {m : Machine} {next : List ℕ} (g : GoodTable m next) where
-  most : m .states ≤ STATES
-  most = g .machine .states-most
+  most : m .sizes .states ≤ STATES
+  most = g .machine .sizes .states-most
 
   module _ {flags : List Bool} {work : List ℕ} {done n : ℕ} (w : Explored m next flags work done n) where
     pub entered-most : n ≤ STATES
-    entered-most = let a : count (m .states) (flagAt flags) ≤ m .states = count-le (m .states) (flagAt flags) in omega (arith, w .number, most)
+    entered-most = let a : count (m .sizes .states) (flagAt flags) ≤ m .sizes .states = count-le (m .sizes .states) (flagAt flags) in omega (arith, w .number, most)
 
-    pub place-small : (i : ℕ) → i < n → getD work i 0 < m .states
+    pub place-small : (i : ℕ) → i < n → getD work i 0 < m .sizes .states
     place-small i l = w .small (getD work i 0) (w .flagged i l)
 
     pub looking : {s : ℕ} → done < n → s ≡ getD work done 0 → Looking m next flags work done n s 0
     looking l e = record { so-far = w; is = e; below = l; each = λ b k. absurd (not-suc-le-zero k) }
 
   module _ {flags : List Bool} {work : List ℕ} {done n s a : ℕ} (w : Looking m next flags work done n s a) where
-    pub looking-small : s < m .states
+    pub looking-small : s < m .sizes .states
     looking-small = rw (w .is) (place-small (w .so-far) done (w .below))
 
-    pub next-cell : a < m .actions → s * m .actions + a < NEXT-ENTRIES
-    next-cell l = cell STATES ACTIONS looking-small (g .machine .states-most) l (g .machine .actions-most)
+    pub next-cell : a < m .sizes .actions → s * m .sizes .actions + a < NEXT-ENTRIES
+    next-cell l = cell STATES ACTIONS looking-small (g .machine .sizes .states-most) l (g .machine .sizes .actions-most)
 
-    pub next-row : s * m .actions ≤ NEXT-ENTRIES
-    next-row = row STATES ACTIONS looking-small (g .machine .states-most) (g .machine .actions-most)
+    pub next-row : s * m .sizes .actions ≤ NEXT-ENTRIES
+    next-row = row STATES ACTIONS looking-small (g .machine .sizes .states-most) (g .machine .sizes .actions-most)
 
-    module _ {t : ℕ} (l : a < m .actions) (e : t ≡ nextAt m next s a) where
-      pub next-small : t < m .states
+    module _ {t : ℕ} (l : a < m .sizes .actions) (e : t ≡ nextAt m next s a) where
+      pub next-small : t < m .sizes .states
       next-small = rw e (g .next-in s a looking-small l)
 
       pub known : flagAt flags t ≡ true → Looking m next flags work done n s (a + 1)
@@ -74,8 +74,8 @@ module _ {m : Machine} {next : List ℕ} (g : GoodTable m next) where
       }
 
       module _ (h : flagAt flags t ≡ false) where
-        pub room : n < m .states
-        room = let a : count (m .states) (flagAt flags) < m .states = count-less (m .states) (flagAt flags) t next-small h in omega (arith, w .so-far .number)
+        pub room : n < m .sizes .states
+        room = let a : count (m .sizes .states) (flagAt flags) < m .sizes .states = count-less (m .sizes .states) (flagAt flags) t next-small h in omega (arith, w .so-far .number)
 
         fits : t < length flags
         fits = omega (arith, next-small, most, w .so-far .flags-long)
@@ -106,8 +106,8 @@ module _ {m : Machine} {next : List ℕ} (g : GoodTable m next) where
         grown = record {
           flags-long = length-set flags t true ∙ w .so-far .flags-long;
           work-long = length-set work n t ∙ w .so-far .work-long;
-          number = count-set flags t fits h (m .states) next-small ∙ ap (λ x. x + 1) (w .so-far .number);
-          begun = stays (m .start) (w .so-far .begun);
+          number = count-set flags t fits h (m .sizes .states) next-small ∙ ap (λ x. x + 1) (w .so-far .number);
+          begun = stays (m .sizes .start) (w .so-far .begun);
           small = λ s q. ⊎-elim (λ z. rw z next-small) (w .so-far .small s) (set-cases s q);
           right = λ s q. ⊎-elim (λ z. subst (Reachable (moving m next)) (sym z) reaches) (w .so-far .right s) (set-cases s q);
           flagged = below-more (λ i. flagAt (set flags t true) (getD (set work n t) i 0) ≡ true) n
@@ -130,7 +130,7 @@ module _ {m : Machine} {next : List ℕ} (g : GoodTable m next) where
               (subst (λ x. flagAt (set flags t true) x ≡ true) e (set-true flags t fits));
         }
 
-    pub looked-at : m .actions ≤ a → Explored m next flags work (done + 1) n
+    pub looked-at : m .sizes .actions ≤ a → Explored m next flags work (done + 1) n
     looked-at l = record {
       flags-long = w .so-far .flags-long;
       work-long = w .so-far .work-long;
@@ -165,32 +165,32 @@ module _ {m : Machine} {next : List ℕ} (g : GoodTable m next) where
       }
 
   -- only the start is entered
-  pub explored-start : Explored m next (set (replicate STATES false) (m .start) true) (set (replicate STATES 0) 0 (m .start)) 0 1
+  pub explored-start : Explored m next (set (replicate STATES false) (m .sizes .start) true) (set (replicate STATES 0) 0 (m .sizes .start)) 0 1
   explored-start = record {
-    flags-long = length-set (replicate STATES false) (m .start) true ∙ length-replicate {A = Bool} STATES false;
+    flags-long = length-set (replicate STATES false) (m .sizes .start) true ∙ length-replicate {A = Bool} STATES false;
     work-long = refl;
-    number = count-set (replicate STATES false) (m .start) fits (empty (m .start)) (m .states) (g .machine .start-in)
-        ∙ ap (λ x. x + 1) (count-same (m .states) (flagAt (replicate STATES false)) (λ _. false) (λ i _. empty i) ∙ count-none (m .states));
-    begun = set-true (replicate STATES false) (m .start) fits;
-    small = λ s q. rw (only s q) (g .machine .start-in);
+    number = count-set (replicate STATES false) (m .sizes .start) fits (empty (m .sizes .start)) (m .sizes .states) (g .machine .sizes .start-in)
+        ∙ ap (λ x. x + 1) (count-same (m .sizes .states) (flagAt (replicate STATES false)) (λ _. false) (λ i _. empty i) ∙ count-none (m .sizes .states));
+    begun = set-true (replicate STATES false) (m .sizes .start) fits;
+    small = λ s q. rw (only s q) (g .machine .sizes .start-in);
     right = λ s q. subst (Reachable (moving m next)) (sym (only s q)) (reachable-closed (moving m next) .first);
     flagged = λ i l. let z : i ≡ 0 = omega arith in
-        subst (λ x. flagAt (set (replicate STATES false) (m .start) true) (getD (set (replicate STATES 0) 0 (m .start)) x 0) ≡ true) (sym z)
-        (set-true (replicate STATES false) (m .start) fits);
+        subst (λ x. flagAt (set (replicate STATES false) (m .sizes .start) true) (getD (set (replicate STATES 0) 0 (m .sizes .start)) x 0) ≡ true) (sym z)
+        (set-true (replicate STATES false) (m .sizes .start) fits);
     place = λ s q. record { at = 0; below = omega arith; is = sym (only s q) };
     looked = λ i a l. absurd (not-suc-le-zero l);
   }
     where
-      fits : m .start < length (replicate {A = Bool} STATES false)
-      fits = rw (length-replicate {A = Bool} STATES false) (le-trans (g .machine .start-in) most)
+      fits : m .sizes .start < length (replicate {A = Bool} STATES false)
+      fits = rw (length-replicate {A = Bool} STATES false) (le-trans (g .machine .sizes .start-in) most)
 
       empty : (s : ℕ) → flagAt (replicate STATES false) s ≡ false
       empty s = by-test (ltb s STATES)
           (λ q. getD-replicate {A = Bool} STATES s false false (ltb-true s STATES q))
           (λ q. List·getD-eq-default (replicate STATES false) false {n = s} (rw (length-replicate {A = Bool} STATES false) (ltb-false s STATES q)))
 
-      only : (s : ℕ) → flagAt (set (replicate STATES false) (m .start) true) s ≡ true → s ≡ m .start
+      only : (s : ℕ) → flagAt (set (replicate STATES false) (m .sizes .start) true) s ≡ true → s ≡ m .sizes .start
       only s q =
-          ⊎-elim (λ (z : s ≡ m .start). z)
-          (λ (z : s ≢ m .start). not-both (sym (getD-set-other (replicate STATES false) (m .start) s true false z) ∙ q) (empty s))
-          (one-of s (m .start) (eqb s (m .start)) refl)
+          ⊎-elim (λ (z : s ≡ m .sizes .start). z)
+          (λ (z : s ≢ m .sizes .start). not-both (sym (getD-set-other (replicate STATES false) (m .sizes .start) s true false z) ∙ q) (empty s))
+          (one-of s (m .sizes .start) (eqb s (m .sizes .start)) refl)

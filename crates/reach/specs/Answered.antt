@@ -27,4 +27,4 @@ outcomeOf m next = choose (eqb (length next) NEXT-ENTRIES) (choose (machineTable
 unfoldable pub flagsOf : Machine → List ℕ → List Bool
 flagsOf m next =
     tabulate STATES λ s.
-    both (both (eqb (length next) NEXT-ENTRIES) (machineTableFits m next)) (both (ltb s (m .states)) (reached (moving m next) s))
+    both (both (eqb (length next) NEXT-ENTRIES) (machineTableFits m next)) (both (ltb s (m .sizes .states)) (reached (moving m next) s))

@@ -27,16 +27,16 @@ pub record Entered (work : List ℕ) (entered s : ℕ) : Type 0 where
 pub record Explored (m : Machine) (next : List ℕ) (flags : List Bool) (work : List ℕ) (done entered : ℕ) : Type 0 where
   pub flags-long : length flags ≡ STATES
   pub work-long : length work ≡ STATES
-  pub number : count (m .states) (flagAt flags) ≡ entered
-  pub begun : flagAt flags (m .start) ≡ true
-  pub small : (s : ℕ) → flagAt flags s ≡ true → s < m .states
+  pub number : count (m .sizes .states) (flagAt flags) ≡ entered
+  pub begun : flagAt flags (m .sizes .start) ≡ true
+  pub small : (s : ℕ) → flagAt flags s ≡ true → s < m .sizes .states
   pub right : (s : ℕ) → flagAt flags s ≡ true → Reachable (moving m next) s
   pub flagged : (i : ℕ) → i < entered → flagAt flags (getD work i 0) ≡ true
   pub place : (s : ℕ) → flagAt flags s ≡ true → Entered work entered s
-  pub looked : (i a : ℕ) → i < done → a < m .actions → flagAt flags (nextAt m next (getD work i 0) a) ≡ true
+  pub looked : (i a : ℕ) → i < done → a < m .sizes .actions → flagAt flags (nextAt m next (getD work i 0) a) ≡ true
 
 -- the flags are of the reachable states
 pub record Complete (m : Machine) (next : List ℕ) (flags : List Bool) : Type 0 where
   pub long : length flags ≡ STATES
-  pub inside : (s : ℕ) → flagAt flags s ≡ true → s < m .states
+  pub inside : (s : ℕ) → flagAt flags s ≡ true → s < m .sizes .states
   pub reach : Reach (moving m next) (flagAt flags)

@@ -66,8 +66,8 @@ fn look(
 {
     let s = work[done];
     let mut n = entered;
-    'actions: for a in 0..machine.actions {
-        let t = model::at(next, s * machine.actions + a);
+    'actions: for a in 0..machine.sizes.actions {
+        let t = model::at(next, s * machine.sizes.actions + a);
         if flags[t] {
             continue 'actions;
         }
@@ -83,7 +83,7 @@ fn explore(machine: Machine, next: &[u16]) -> Set
     requires { ⌜ GoodTable machine (now next) ⌝ }
     ensures { λ r. ⌜ Complete machine (now (next .entry)) (listed r) ⌝ }
 {
-    let start = machine.start;
+    let start = machine.sizes.start;
     let mut flags = [false; STATES];
     flags[start] = true;
     let mut work = [0usize; STATES];

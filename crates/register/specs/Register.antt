@@ -4,7 +4,7 @@ use mathlib.Core.Bool.{Bool}
 use mathlib.Core.List.{List, [], _∷_}
 use Prim.Native.Nat.{ℕ}
 use Rattle.model.specs.Limits.{ACTIONS, BOXES, NEXT-ENTRIES, OUTPUT-ENTRIES, VIEW-ENTRIES}
-use Rattle.model.specs.Made.{machineFrom, modelFrom}
+use Rattle.model.specs.Made.{sizesFrom, machineFrom, modelFrom}
 use Rattle.model.specs.declared.Machine.{Machine}
 use Rattle.model.specs.declared.Model.{Model}
 use Rattle.register.specs.Tables.{full, byState, byBox, selves, draws}
@@ -58,7 +58,7 @@ abbrev pub views : List ℕ
 views = full VIEW-ENTRIES viewEntries
 
 abbrev pub machine : Machine
-machine = machineFrom 9 4 4 0 (full ACTIONS (0 ∷ 1 ∷ 2 ∷ 3 ∷ []))
+machine = machineFrom (sizesFrom 9 4 4 0) (full ACTIONS (0 ∷ 1 ∷ 2 ∷ 3 ∷ []))
 
 -- 10 to 30, 20 to 30, 30 to 40
 abbrev pub arrows : List Bool

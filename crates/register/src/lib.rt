@@ -1,6 +1,7 @@
 // The register machine as fixed tables.
 use model::Machine;
 use model::Model;
+use model::Sizes;
 ghost use mathlib.Core.Path.{_≡_};
 ghost use mathlib.Core.List.{_++_};
 ghost use Prim.Native.Nat.{_≤_};
@@ -162,15 +163,23 @@ pub fn views() -> [u16; model::VIEW_ENTRIES]
     table
 }
 
-// Boxes U, V, W and X with an action each.
+// The boxes' positions; each has an action of the same number.
+const U: usize = 0;
+
+const V: usize = 1;
+
+const W: usize = 2;
+
+const X: usize = 3;
+
 pub fn machine() -> Machine
     ensures { λ r. ⌜ r ≡ specs.machine ⌝ }
 {
     let mut owners = [0u8; model::ACTIONS];
-    owners[1] = 1;
-    owners[2] = 2;
-    owners[3] = 3;
-    Machine::new(9, 4, 4, 0, owners)
+    owners[V] = 1;
+    owners[W] = 2;
+    owners[X] = 3;
+    Machine::new(Sizes::new(9, 4, 4, 0), owners)
 }
 
 // Their ids, and the arrows 10 to 30, 20 to 30, 30 to 40 with the self-arrows.
@@ -178,17 +187,17 @@ pub fn model() -> Model
     ensures { λ r. ⌜ r ≡ specs.model ⌝ }
 {
     let mut ids = [0u32; model::BOXES];
-    ids[0] = 10;
-    ids[1] = 20;
-    ids[2] = 30;
-    ids[3] = 40;
+    ids[U] = 10;
+    ids[V] = 20;
+    ids[W] = 30;
+    ids[X] = 40;
     let mut arrows = [false; model::ARROWS];
-    arrows[0] = true;
-    arrows[2] = true;
-    arrows[17] = true;
-    arrows[18] = true;
-    arrows[34] = true;
-    arrows[35] = true;
-    arrows[51] = true;
+    arrows[U * model::BOXES + U] = true;
+    arrows[U * model::BOXES + W] = true;
+    arrows[V * model::BOXES + V] = true;
+    arrows[V * model::BOXES + W] = true;
+    arrows[W * model::BOXES + W] = true;
+    arrows[W * model::BOXES + X] = true;
+    arrows[X * model::BOXES + X] = true;
     Model::new(machine(), ids, arrows)
 }

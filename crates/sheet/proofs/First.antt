@@ -5,6 +5,8 @@ use mathlib.Core.List.{List, _∷_}
 use native.Mathlib.Omega.{arith}
 use borrow.Author.Tests.{lt-ltb, le-leb, eq-eqb}
 use lib.ListN.{length, getD, drop, length-replicate}
+use Rattle.model.specs.Made.{sizesFrom}
+use Rattle.model.specs.Good.{GoodSizes}
 use Rattle.model.specs.Limits.{NEXT-ENTRIES, OUTPUT-ENTRIES, VIEW-ENTRIES, SHEET-BYTES}
 use Rattle.text.specs.Lines.{lines, endOf, lineAt, Ended}
 use Rattle.text.proofs.Parts.{line-next, no-lines}
@@ -13,14 +15,14 @@ use Rattle.sheet.specs.Records.{sheetLine}
 use Rattle.sheet.specs.Phases.{Got, Steps, steps, takenBy}
 use Rattle.sheet.specs.Reading.{zeros, Parts, parts, model, refusal, finish, sheetLines, sheetText}
 use Rattle.sheet.proofs.Taking.{TookFrom, took-from, StoppedFrom, ended, bad, stopped-from}
-use Rattle.sheet.proofs.Good.{Sizes, sheet-good}
+use Rattle.sheet.proofs.Good.{sheet-good}
 
 -- a `sheet` line was taken
 module _ (t : List ℕ) {a b c d next : ℕ} (h : takenBy sheetLine t 0 ≡ Took a b c d next) where
   from : TookFrom sheetLine t 0 a b c d next
   from = took-from sheetLine t 0 a b c d next h
 
-  pub first-sizes : Sizes a b c d
+  pub first-sizes : GoodSizes (sizesFrom a b c d)
   first-sizes = sheet-good (lineAt t 0) (from .line-is)
 
   pub first-few : 2 ≤ next + 1
@@ -38,7 +40,7 @@ module _ {t : List ℕ} (q : Ended t) (s : Steps) (v : List ℕ) where
       go (ended g) = rw (no-lines t 0 g)
       go (bad g w) = rw (first-line g, w)
 
-  pub first-good : {a b c d next : ℕ} {g : Got Parts} → takenBy sheetLine t 0 ≡ Took a b c d next → g ≡ parts a b c s v (lines (drop next t)) 2 → finish g (model a b c d) ≡ sheetLines s v (lines t)
+  pub first-good : {a b c d next : ℕ} {g : Got Parts} → takenBy sheetLine t 0 ≡ Took a b c d next → g ≡ parts a b c s v (lines (drop next t)) 2 → finish g (model (sizesFrom a b c d)) ≡ sheetLines s v (lines t)
   unfolding sheetLines
   first-good {a} {b} {c} {d} {next} {g} h e = rw (e, first-line (from t h .within), from t h .line-is, from t h .next-is)
 

@@ -10,6 +10,8 @@ use borrow.Author.Tests.{ltb-true, leb-true, eqb-true}
 use lib.ListN.{length, getD, set, replicate}
 use lib.Dec.{ltb, leb, eqb}
 use Rattle.model.specs.Limits.{STATES, ACTIONS, BOXES, LARGEST-ID, LARGEST-NUMBER}
+use Rattle.model.specs.Made.{sizesFrom}
+use Rattle.model.specs.Good.{GoodSizes}
 use Rattle.text.specs.declared.Number.{Number}
 use Rattle.text.specs.declared.Number.the-variants.{Good, Bad}
 use Rattle.text.specs.Number.{number, onNumber}
@@ -107,19 +109,10 @@ record-bounded w ms l h =
     zeros (suc (suc (suc (suc j)))) = zero-le
 
 -- the sizes and the start of a good `sheet` line
-pub record Sizes (states actions boxes start : ℕ) : Type 0 where
-  pub some-states : 0 < states
-  pub few-states : states ≤ STATES
-  pub some-actions : 0 < actions
-  pub few-actions : actions ≤ ACTIONS
-  pub some-boxes : 0 < boxes
-  pub few-boxes : boxes ≤ BOXES
-  pub start-below : start < states
-
 sized-good : (most n : ℕ) → sized most n ≡ true → (0 < n) × (n ≤ most)
 sized-good most n h = let p = both-true (ltb 0 n) (leb n most) h in (ltb-true 0 n (p .0), leb-true n most (p .1))
 
-pub sheet-good : (l : List ℕ) {a b c d : ℕ} → sheetLine l ≡ Numbers a b c d → Sizes a b c d
+pub sheet-good : (l : List ℕ) {a b c d : ℕ} → sheetLine l ≡ Numbers a b c d → GoodSizes (sizesFrom a b c d)
 unfolding sheetLine
 sheet-good l {a} {b} {c} {d} h =
     let m = made (recordOf words.sheet (LARGEST-NUMBER ∷ LARGEST-NUMBER ∷ LARGEST-NUMBER ∷ LARGEST-NUMBER ∷ []) l) h in
@@ -136,13 +129,13 @@ sheet-good l {a} {b} {c} {d} h =
     let o = sized-good BOXES (m .z) (u .1) in
     let s = ltb-true (m .w) (m .x) (q .0) in
     record {
-      some-states = omega arith;
-      few-states = omega arith;
-      some-actions = omega arith;
-      few-actions = omega arith;
-      some-boxes = omega arith;
-      few-boxes = omega arith;
-      start-below = omega arith;
+      states-some = omega arith;
+      states-most = omega arith;
+      actions-some = omega arith;
+      actions-most = omega arith;
+      boxes-some = omega arith;
+      boxes-most = omega arith;
+      start-in = omega arith;
     }
 
 -- a good `act` line names a box

@@ -7,6 +7,8 @@ use native.Mathlib.Omega.{arith}
 use borrow.Author.Tests.{eqb-true}
 use lib.ListN.{length, getD}
 use lib.Dec.{eqb}
+use Rattle.model.specs.Made.{sizesFrom}
+use Rattle.model.specs.declared.Sizes.{Sizes}
 use Rattle.model.specs.Limits.{NEXT-ENTRIES, OUTPUT-ENTRIES, VIEW-ENTRIES, SHEET-BYTES}
 use Rattle.text.specs.Lines.{lines, Ended}
 use Rattle.sheet.specs.declared.Record.{Record}
@@ -20,8 +22,8 @@ use Rattle.sheet.specs.Reading.{zeros, onGot, Parts, parts, model, refus
 pub no-got : {A S : Type 0} {e n : ℕ} {s : S} {ls : List (List ℕ)} {m : ℕ} → refused e n ≡ got s ls m → A
 no-got {A} {S} {e} {n} {s} {ls} {m} h = let z : _≡_ {A = ℕ} 0 1 = cc in absurd (omega arith)
 
-no-model : {A : Type 0} {e n a b c d : ℕ} {p : Parts} → refusal e n ≡ model a b c d p → A
-no-model h = let z : _≡_ {A = ℕ} 0 1 = cc in absurd (omega arith)
+no-model : {A : Type 0} {e n : ℕ} {z : Sizes} {p : Parts} → refusal e n ≡ model z p → A
+no-model h = let d : _≡_ {A = ℕ} 0 1 = cc in absurd (omega arith)
 
 -- of two runs, one after the other, both were good
 pub record Then {S T : Type 0} (g : Got S) (f : S → List (List ℕ) → ℕ → Got T) (x : T) (ls : List (List ℕ)) (n : ℕ) : Type 0 where
@@ -84,41 +86,41 @@ module _ {S : Type 0} (line : ℕ → S → List ℕ → Record) (store : ℕ �
       go f (Numbers a b c d) q h = f (store k s a b c d) (keep k s l a b c d (omega arith) p q) h
 
 -- a text that is not refused: its lines, and what they say
-pub record Inside (t : List ℕ) (states actions boxes start : ℕ) (p : Parts) : Type 0 where
+pub record Inside (t : List ℕ) (z : Sizes) (p : Parts) : Type 0 where
   pub closed : Ended t
   pub first : List ℕ
   pub others : List (List ℕ)
   pub lines-are : lines t ≡ first ∷ others
-  pub sizes : sheetLine first ≡ Numbers states actions boxes start
+  pub sizes : sheetLine first ≡ Numbers (z .states) (z .actions) (z .boxes) (z .start)
   pub number : ℕ
-  pub body : parts states actions boxes (steps (zeros NEXT-ENTRIES) (zeros OUTPUT-ENTRIES)) (zeros VIEW-ENTRIES) others 2 ≡ got p [] number
+  pub body : parts (z .states) (z .actions) (z .boxes) (steps (zeros NEXT-ENTRIES) (zeros OUTPUT-ENTRIES)) (zeros VIEW-ENTRIES) others 2 ≡ got p [] number
 
-pub inside : (t : List ℕ) {states actions boxes start : ℕ} {p : Parts} → sheetText t ≡ model states actions boxes start p → Inside t states actions boxes start p
+pub inside : (t : List ℕ) {z : Sizes} {p : Parts} → sheetText t ≡ model z p → Inside t z p
 unfolding sheetText sheetLines
-inside t {states} {actions} {boxes} {start} {p} h = go (sized SHEET-BYTES (length t)) (eqb (getD t (length t - 1) 0) 10) refl (lines t) refl h
+inside t {z} {p} h = go (sized SHEET-BYTES (length t)) (eqb (getD t (length t - 1) 0) 10) refl (lines t) refl h
   where
     ends : (l : List ℕ) (ls : List (List ℕ)) (a b c d : ℕ) → sheetLine l ≡ Numbers a b c d → lines t ≡ l ∷ ls → Ended t
-        → (g : Got Parts) → parts a b c (steps (zeros NEXT-ENTRIES) (zeros OUTPUT-ENTRIES)) (zeros VIEW-ENTRIES) ls 2 ≡ g → finish g (model a b c d) ≡ model states actions boxes start p → Inside t states actions boxes start p
+        → (g : Got Parts) → parts a b c (steps (zeros NEXT-ENTRIES) (zeros OUTPUT-ENTRIES)) (zeros VIEW-ENTRIES) ls 2 ≡ g → finish g (model (sizesFrom a b c d)) ≡ model z p → Inside t z p
     ends l ls a b c d q e k (got x [] n) w h = record {
       closed = k;
       first = l;
       others = ls;
       lines-are = e;
-      sizes = q ∙ cc;
+      sizes = (let u : sizesFrom a b c d ≡ z = cc in rw (← u) q);
       number = n;
       body =
-          (let u : a ≡ states = cc in let v : b ≡ actions = cc in let o : c ≡ boxes = cc in let z : x ≡ p = cc in rw (← u, ← v, ← o, ← z) w);
+          (let u : sizesFrom a b c d ≡ z = cc in let v : x ≡ p = cc in rw (← u, ← v) w);
     }
     ends l ls a b c d q e k (got x (m ∷ ms) n) w h = no-model h
     ends l ls a b c d q e k (refused x n) w h = no-model h
 
     line : (l : List ℕ) (ls : List (List ℕ)) → lines t ≡ l ∷ ls → Ended t → (r : Record) → sheetLine l ≡ r
-        → onRecord r (λ a b c d. finish (parts a b c (steps (zeros NEXT-ENTRIES) (zeros OUTPUT-ENTRIES)) (zeros VIEW-ENTRIES) ls 2) (model a b c d)) (λ e. refusal e 1) ≡ model states actions boxes start p → Inside t states actions boxes start p
+        → onRecord r (λ a b c d. finish (parts a b c (steps (zeros NEXT-ENTRIES) (zeros OUTPUT-ENTRIES)) (zeros VIEW-ENTRIES) ls 2) (model (sizesFrom a b c d))) (λ e. refusal e 1) ≡ model z p → Inside t z p
     line l ls e k (Numbers a b c d) q h = ends l ls a b c d q e k (parts a b c (steps (zeros NEXT-ENTRIES) (zeros OUTPUT-ENTRIES)) (zeros VIEW-ENTRIES) ls 2) refl h
     line l ls e k (Not x) q h = no-model h
 
     go : (u w : Bool) → eqb (getD t (length t - 1) 0) 10 ≡ w → (ls : List (List ℕ)) → lines t ≡ ls
-        → cond (u && w) (sheetLines (steps (zeros NEXT-ENTRIES) (zeros OUTPUT-ENTRIES)) (zeros VIEW-ENTRIES) ls) (refusal 1 0) ≡ model states actions boxes start p → Inside t states actions boxes start p
+        → cond (u && w) (sheetLines (steps (zeros NEXT-ENTRIES) (zeros OUTPUT-ENTRIES)) (zeros VIEW-ENTRIES) ls) (refusal 1 0) ≡ model z p → Inside t z p
     go false w q ls e h = no-model h
     go true false q ls e h = no-model h
     go true true q [] e h = no-model h

@@ -12,6 +12,7 @@ use lib.ListN.{length, getD, take, drop, set, length-drop}
 use lib.Seq.{length-take-le, take-all, take-nil, drop-drop}
 use lib.Dec.{ltb}
 use Rattle.model.specs.Limits.{BOXES}
+use Rattle.model.specs.declared.Sizes.{Sizes}
 use Rattle.text.specs.Lines.{before, lines, endOf, lineAt, fieldsAt, fieldFrom, Ended}
 use Rattle.text.proofs.Parts.{fields-none, fields-next, line-ends}
 use Rattle.sheet.specs.declared.Found.the-variants.{At, Refused}
@@ -64,19 +65,19 @@ pub record BoxThere (t : List ℕ) (position : ℕ) : Type 0 where
   pub id : ℕ
   pub is : Boxed before (lineAt t (boxStart t position)) id
 
-pub box-there : (t : List ℕ) {a b c d : ℕ} {p : Parts} → sheetText t ≡ model a b c d p → (position : ℕ) → position < c → BoxThere t position
+pub box-there : (t : List ℕ) {z : Sizes} {p : Parts} → sheetText t ≡ model z p → (position : ℕ) → position < z .boxes → BoxThere t position
 unfolding parts
-box-there t {a} {b} {c} {d} {p} h position g =
+box-there t {z} {p} h position g =
     let i = inside t h in
-    let r = first-of (boxes c (i .others) 2) (i .body) in
-    let w = each-line (λ k ids. boxLine (take k ids)) (λ k ids id _ _ _. set ids k id) c 0 _ (i .others) 2 (r .is) position g in
+    let r = first-of (boxes (z .boxes) (i .others) 2) (i .body) in
+    let w = each-line (λ k ids. boxLine (take k ids)) (λ k ids id _ _ _. set ids k id) (z .boxes) 0 _ (i .others) 2 (r .is) position g in
     let l : length (lines t) ≡ suc (length (i .others)) = ap length (i .lines-are) in
     let n : position + 1 < length (lines t) = omega (arith, w .1) in
     let e : lineAt t (boxStart t position) ≡ getD (i .others) position [] =
     line-there (i .closed) (position + 1) n ∙ rw (i .lines-are, add-one position) in
     record {
       closed = i .closed;
-      small = omega (arith, sheet-good (i .first) (i .sizes) .few-boxes);
+      small = omega (arith, sheet-good (i .first) (i .sizes) .boxes-most);
       there = n;
       before = take (0 + position) (w .0 .before);
       id = w .0 .a;
@@ -100,9 +101,9 @@ found-within t position {start} {end} h = go (sheetText t) refl h
 
     go : (r : Reading) → sheetText t ≡ r → foundIn r t position ≡ At start end → (start ≤ end) × (end ≤ length t)
     go (refusal e n) q h = refusal-is-none h
-    go (model a b c d p) q h = which (ltb position c) refl h
+    go (model z p) q h = which (ltb position (z .boxes)) refl h
       where
-        which : (u : Bool) → ltb position c ≡ u → cond u (placed (labelPlace t position)) (Refused 13 0) ≡ At start end → (start ≤ end) × (end ≤ length t)
+        which : (u : Bool) → ltb position (z .boxes) ≡ u → cond u (placed (labelPlace t position)) (Refused 13 0) ≡ At start end → (start ≤ end) × (end ≤ length t)
         which true w h = there (box-there t q position (ltb-true _ _ w)) h
         which false w h = refusal-is-none h
 
@@ -144,20 +145,20 @@ module _ (t : List ℕ) (a : Answer) (x : Parts) (h : readingOf a x ≡ sheetTex
   unfolding labelFound
   found-refused q = rw (← h, q)
 
-  module _ {i j k l : ℕ} (q : a ≡ answer.Model i j k l) where
-    is-model : sheetText t ≡ model i j k l x
+  module _ {z : Sizes} (q : a ≡ answer.Model z) where
+    is-model : sheetText t ≡ model z x
     is-model = sym h ∙ rw q
 
-    pub found-box : position < k → BoxThere t position
+    pub found-box : position < z .boxes → BoxThere t position
     found-box g = box-there t is-model position g
 
-    pub found-place : {p : Place} → position < k → p ≡ labelPlace t position → placed p ≡ labelFound t position
+    pub found-place : {p : Place} → position < z .boxes → p ≡ labelPlace t position → placed p ≡ labelFound t position
     unfolding labelFound
-    found-place g e = rw (is-model, lt-ltb position k g, e)
+    found-place g e = rw (is-model, lt-ltb position (z .boxes) g, e)
 
-    pub found-none : k ≤ position → Refused 13 0 ≡ labelFound t position
+    pub found-none : z .boxes ≤ position → Refused 13 0 ≡ labelFound t position
     unfolding labelFound
-    found-none g = rw (is-model, le-ltb position k g)
+    found-none g = rw (is-model, le-ltb position (z .boxes) g)
 
 -- the third field of a line that has three stands from its start to the line's end
 third-is : (l : List ℕ) → length (rest l) ≡ 2 → getD (rest l) 1 [] ≡ drop (thirdField l) l
@@ -182,12 +183,12 @@ part-of t at end k =
     let m : end - (at + k) ≡ (end - at) - k = omega arith in
     rw (m, ← drop-drop k at t) (drop-take k (end - at) (drop at t))
 
-found-bytes : (t : List ℕ) {a b c d : ℕ} {p : Parts} → sheetText t ≡ model a b c d p → (position : ℕ) → position < c → label t position .bytes ≡ drop (thirdField (lineAt t (boxStart t position))) (lineAt t (boxStart t position))
+found-bytes : (t : List ℕ) {z : Sizes} {p : Parts} → sheetText t ≡ model z p → (position : ℕ) → position < z .boxes → label t position .bytes ≡ drop (thirdField (lineAt t (boxStart t position))) (lineAt t (boxStart t position))
 unfolding labelFound
-found-bytes t {a} {b} {c} h position g = rw (h, lt-ltb position c g) (part-of t (boxStart t position) (endOf 10 t (boxStart t position)) (thirdField (lineAt t (boxStart t position))))
+found-bytes t {z} h position g = rw (h, lt-ltb position (z .boxes) g) (part-of t (boxStart t position) (endOf 10 t (boxStart t position)) (thirdField (lineAt t (boxStart t position))))
 
 -- the label that is found is the third field of the position's `box` line, and a good label
-pub label-is : (t : List ℕ) {a b c d : ℕ} {p : Parts} → sheetText t ≡ model a b c d p → (position : ℕ) → position < c
+pub label-is : (t : List ℕ) {z : Sizes} {p : Parts} → sheetText t ≡ model z p → (position : ℕ) → position < z .boxes
     → (label t position .bytes ≡ getD (rest (getD (lines t) (position + 1) [])) 1 []) × (labelGood (label t position .bytes) ≡ true)
 label-is t h position g =
     let w = box-there t h position g in

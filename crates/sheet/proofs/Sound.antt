@@ -10,6 +10,8 @@ use native.Mathlib.Nat.{mul-le-mul}
 use borrow.Author.Tests.{ltb-false}
 use lib.ListN.{length, getD, take, set, replicate, length-set, length-replicate, getD-replicate, List·getD-eq-default}
 use lib.Seq.{getD-set-same, getD-set-other, getD-take, length-take-le}
+use Rattle.model.specs.Good.{GoodSizes}
+use Rattle.model.specs.declared.Sizes.{Sizes}
 use Rattle.model.specs.Limits.{STATES, ACTIONS, BOXES, ARROWS, NEXT-ENTRIES, OUTPUT-ENTRIES, VIEW-ENTRIES, LARGEST-ID, LARGEST-NUMBER}
 use Rattle.text.proofs.Parts.{before-hit}
 use Rattle.sheet.specs.declared.Flow.{Flow}
@@ -17,7 +19,7 @@ use Rattle.sheet.specs.declared.Flow.the-variants.{One, Two, Not, Other}
 use Rattle.sheet.specs.Records.{position, known, boxLine, actLine, goLine, viewLine, flowLine, onFlow}
 use Rattle.sheet.specs.Phases.{got, refused, boxes, acts, goes, Steps, steps, drawn, selves, flows, views}
 use Rattle.sheet.specs.Reading.{zeros, Drawn, drawnAs, drawing, Parts, partsAs, parts, model, sheetText}
-use Rattle.sheet.proofs.Good.{Sizes, sheet-good, box-good, act-good, go-good, view-good, flow-good}
+use Rattle.sheet.proofs.Good.{sheet-good, box-good, act-good, go-good, view-good, flow-good}
 use Rattle.sheet.proofs.Inside.{first-of, kept, inside, no-got}
 use Rattle.sheet.proofs.First.{zeros-length}
 
@@ -213,27 +215,27 @@ drawn-good states actions ids ls n {d} s a c h =
     })
 
 -- what the reader gives keeps to every rule for a model
-pub record Sound (states actions count start : ℕ) (p : Parts) : Type 0 where
-  pub sizes : Sizes states actions count start
-  pub ids : Ids count (p .ids)
-  pub owners : Filled ACTIONS (λ box. box < count) actions (p .owners)
-  pub drawn : SoundDrawn states actions count (p .drawn)
+pub record Sound (z : Sizes) (p : Parts) : Type 0 where
+  pub sizes : GoodSizes z
+  pub ids : Ids (z .boxes) (p .ids)
+  pub owners : Filled ACTIONS (λ box. box < z .boxes) (z .actions) (p .owners)
+  pub drawn : SoundDrawn (z .states) (z .actions) (z .boxes) (p .drawn)
 
-parts-good : (states actions count start : ℕ) (ls : List (List ℕ)) (n : ℕ) {p : Parts} {ls′ : List (List ℕ)} {n′ : ℕ} → Sizes states actions count start
-    → parts states actions count (steps (zeros NEXT-ENTRIES) (zeros OUTPUT-ENTRIES)) (zeros VIEW-ENTRIES) ls n ≡ got p ls′ n′ → Sound states actions count start p
+parts-good : (z : Sizes) (ls : List (List ℕ)) (n : ℕ) {p : Parts} {ls′ : List (List ℕ)} {n′ : ℕ} → GoodSizes z
+    → parts (z .states) (z .actions) (z .boxes) (steps (zeros NEXT-ENTRIES) (zeros OUTPUT-ENTRIES)) (zeros VIEW-ENTRIES) ls n ≡ got p ls′ n′ → Sound z p
 unfolding parts
-parts-good states actions count start ls n {p} z h =
-    let b = first-of (boxes count ls n) h in
-    let i = ids-good count (z .few-boxes) ls n (b .is) in
-    let l : length (take count (b .what)) ≡ count = length-take-le count (b .what) (omega (arith, i .filled .room, z .few-boxes)) in
-    let a = first-of (acts (take count (b .what)) actions (b .left) (b .number)) (b .then) in
-    let d = first-of (drawing states actions (take count (b .what)) (steps (zeros NEXT-ENTRIES) (zeros OUTPUT-ENTRIES)) (zeros VIEW-ENTRIES) (a .left) (a .number)) (a .then) in
+parts-good z ls n {p} g h =
+    let b = first-of (boxes (z .boxes) ls n) h in
+    let i = ids-good (z .boxes) (g .boxes-most) ls n (b .is) in
+    let l : length (take (z .boxes) (b .what)) ≡ z .boxes = length-take-le (z .boxes) (b .what) (omega (arith, i .filled .room, g .boxes-most)) in
+    let a = first-of (acts (take (z .boxes) (b .what)) (z .actions) (b .left) (b .number)) (b .then) in
+    let d = first-of (drawing (z .states) (z .actions) (take (z .boxes) (b .what)) (steps (zeros NEXT-ENTRIES) (zeros OUTPUT-ENTRIES)) (zeros VIEW-ENTRIES) (a .left) (a .number)) (a .then) in
     let e : partsAs (b .what) (a .what) (d .what) ≡ p = cc (d .then) in
-    let o : Filled ACTIONS (λ box. box < count) actions (a .what) = (rw l at (owners-good (take count (b .what)) actions (z .few-actions) (b .left) (b .number) (a .is))) in
-    let w : SoundDrawn states actions count (d .what) = (rw l at (drawn-good states actions (take count (b .what)) (a .left) (a .number) (z .few-states) (z .few-actions) (omega (arith, l, z .few-boxes)) (d .is))) in
-    rw (← e) (record { sizes = z; ids = i; owners = o; drawn = w })
+    let o : Filled ACTIONS (λ box. box < z .boxes) (z .actions) (a .what) = (rw l at (owners-good (take (z .boxes) (b .what)) (z .actions) (g .actions-most) (b .left) (b .number) (a .is))) in
+    let w : SoundDrawn (z .states) (z .actions) (z .boxes) (d .what) = (rw l at (drawn-good (z .states) (z .actions) (take (z .boxes) (b .what)) (a .left) (a .number) (g .states-most) (g .actions-most) (omega (arith, l, g .boxes-most)) (d .is))) in
+    rw (← e) (record { sizes = g; ids = i; owners = o; drawn = w })
 
-pub sound : (t : List ℕ) {states actions count start : ℕ} {p : Parts} → sheetText t ≡ model states actions count start p → Sound states actions count start p
-sound t {states} {actions} {count} {start} h =
+pub sound : (t : List ℕ) {z : Sizes} {p : Parts} → sheetText t ≡ model z p → Sound z p
+sound t {z} h =
     let i = inside t h in
-    parts-good states actions count start (i .others) 2 (sheet-good (i .first) (i .sizes)) (i .body)
+    parts-good z (i .others) 2 (sheet-good (i .first) (i .sizes)) (i .body)

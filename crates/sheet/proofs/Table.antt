@@ -9,6 +9,9 @@ use lib.ListN.{length, getD, take, replicate}
 use lib.Seq.{length-take-le}
 use lib.Dec.{eqb}
 use Rattle.model.specs.Limits.{BOXES, ARROWS, NEXT-ENTRIES, OUTPUT-ENTRIES, VIEW-ENTRIES, SHEET-BYTES}
+use Rattle.model.specs.Made.{sizesFrom}
+use Rattle.model.specs.Good.{GoodSizes}
+use Rattle.model.specs.declared.Sizes.{Sizes}
 use Rattle.text.specs.Lines.{lines}
 use Rattle.sheet.specs.declared.Record.{Record}
 use Rattle.sheet.specs.declared.Record.the-variants.{Numbers, Not}
@@ -18,9 +21,9 @@ use Rattle.sheet.specs.Records.{sized, sheetLine}
 use Rattle.sheet.specs.Phases.{Got, got, refused, Steps, steps, boxes, acts, goes, selves, flows, views}
 use Rattle.sheet.specs.Reading.{zeros, onGot, drawnAs, drawing, Parts, partsAs, parts, Reading, model, refusal, finish, sheetLines, sheetText}
 use Rattle.sheet.specs.Table.{byRows}
-use Rattle.sheet.specs.Meaning.{Size, atSheet, atEnd, boxesFrom, goesFrom, after, RefusedText, whole, byLine}
+use Rattle.sheet.specs.Meaning.{atSheet, atEnd, boxesFrom, goesFrom, after, RefusedText, whole, byLine}
 use Rattle.sheet.proofs.ByRows.{by-rows}
-use Rattle.sheet.proofs.Good.{Sizes, sheet-good}
+use Rattle.sheet.proofs.Good.{sheet-good}
 use Rattle.sheet.proofs.Meant.{Judged, fine, refusedAt, walk, onJudged, meant, refuses}
 use Rattle.sheet.proofs.Sound.{ids-good}
 use Rattle.sheet.proofs.Walk.{boxes-walk, acts-walk, goes-walk, flows-walk, views-walk}
@@ -41,7 +44,7 @@ unfolding fin
 chain (got s ls n) w f h = h s ls n refl
 chain (refused e n) w f h = refl
 
-module _ (z : Size) (ids : List ℕ) (some : 0 < length ids * z .states) (t : Steps) (v : List ℕ) where
+module _ (z : Sizes) (ids : List ℕ) (some : 0 < length ids * z .states) (t : Steps) (v : List ℕ) where
   drawing-walk : (ls : List (List ℕ)) (n : ℕ) → walk (goesFrom z ids 0) ls n ≡ fin (drawing (z .states) (z .actions) ids t v ls n)
   unfolding drawing
   drawing-walk ls n =
@@ -56,33 +59,33 @@ fin-same (got s [] n) f = refl
 fin-same (got s (l ∷ ls) n) f = refl
 fin-same (refused e n) f = refl
 
-module _ (z : Size) {start : ℕ} (good : Sizes (z .states) (z .actions) (z .boxes) start) (t : Steps) (v : List ℕ) where
+module _ (z : Sizes) (good : GoodSizes z) (t : Steps) (v : List ℕ) where
   parts-walk : (ls : List (List ℕ)) (n : ℕ) → walk (boxesFrom z 0 (replicate BOXES 0)) ls n ≡ fin (parts (z .states) (z .actions) (z .boxes) t v ls n)
   unfolding parts
   parts-walk ls n =
       boxes-walk z ls n ∙ chain (boxes (z .boxes) ls n) _ _ (λ ids ls′ n′ e.
-      let room : length (take (z .boxes) ids) ≡ z .boxes = length-take-le (z .boxes) ids (omega (arith, ids-good (z .boxes) (good .few-boxes) ls n e .filled .room, good .few-boxes)) in
-      let some : 0 < length (take (z .boxes) ids) * z .states = rw room (omega (arith, mul-le-mul (good .some-boxes) (good .some-states))) in
+      let room : length (take (z .boxes) ids) ≡ z .boxes = length-take-le (z .boxes) ids (omega (arith, ids-good (z .boxes) (good .boxes-most) ls n e .filled .room, good .boxes-most)) in
+      let some : 0 < length (take (z .boxes) ids) * z .states = rw room (omega (arith, mul-le-mul (good .boxes-some) (good .states-some))) in
       acts-walk z (take (z .boxes) ids) ls′ n′ ∙ chain (acts (take (z .boxes) ids) (z .actions) ls′ n′) _ _ (λ owners ls n _.
       drawing-walk z (take (z .boxes) ids) some t v ls n ∙ fin-same (drawing (z .states) (z .actions) (take (z .boxes) ids) t v ls n) (partsAs ids owners)))
 
 judgedOf : Reading → Judged
-judgedOf (model a b c d p) = fine
+judgedOf (model z p) = fine
 judgedOf (refusal e n) = refusedAt e n
 
-finished : (g : Got Parts) (a b c d : ℕ) → fin g ≡ judgedOf (finish g (model a b c d))
+finished : (g : Got Parts) (z : Sizes) → fin g ≡ judgedOf (finish g (model z))
 unfolding fin judgedOf
-finished (got p [] n) a b c d = refl
-finished (got p (l ∷ ls) n) a b c d = refl
-finished (refused e n) a b c d = refl
+finished (got p [] n) z = refl
+finished (got p (l ∷ ls) n) z = refl
+finished (refused e n) z = refl
 
 sheet-walk : (t : Steps) (v : List ℕ) (ls : List (List ℕ)) → walk atSheet ls 1 ≡ judgedOf (sheetLines t v ls)
 unfolding walk sheetLines judgedOf
 sheet-walk t v [] = refl
 sheet-walk t v (l ∷ ls) = rw (sym (by-rows due.Sheet [] l)) (go (sheetLine l) refl)
   where
-    go : (r : Record) → sheetLine l ≡ r → onRecord r (λ a b c d. walk (after atSheet l a b c d) ls 2) (λ e. refusedAt e 1) ≡ judgedOf (onRecord r (λ a b c d. finish (parts a b c t v ls 2) (model a b c d)) (λ e. refusal e 1))
-    go (Numbers a b c d) q = parts-walk (record { states = a; actions = b; boxes = c }) (sheet-good l q) t v ls 2 ∙ finished (parts a b c t v ls 2) a b c d
+    go : (r : Record) → sheetLine l ≡ r → onRecord r (λ a b c d. walk (after atSheet l a b c d) ls 2) (λ e. refusedAt e 1) ≡ judgedOf (onRecord r (λ a b c d. finish (parts a b c t v ls 2) (model (sizesFrom a b c d))) (λ e. refusal e 1))
+    go (Numbers a b c d) q = parts-walk (sizesFrom a b c d) (sheet-good l q) t v ls 2 ∙ finished (parts a b c t v ls 2) (sizesFrom a b c d)
     go (Not e) q = refl
 
 -- the theorem
@@ -97,7 +100,7 @@ refused-means t e n h = go (sized SHEET-BYTES (length t) && eqb (getD t (length 
 
 back : (r : Reading) (e n : ℕ) → judgedOf r ≡ refusedAt e n → r ≡ refusal e n
 unfolding judgedOf
-back (model a b c d p) e n h = let z : _≡_ {A = ℕ} 0 1 = cc in absurd (omega arith)
+back (model z p) e n h = let d : _≡_ {A = ℕ} 0 1 = cc in absurd (omega arith)
 back (refusal e′ n′) e n h = cc
 
 pub means-refused : (t : List ℕ) (e n : ℕ) → RefusedText t e n → sheetText t ≡ refusal e n

@@ -7,6 +7,7 @@ use native.Mathlib.Omega.{arith}
 use borrow.Author.Tests.{lt-ltb, le-ltb}
 use lib.ListN.{length, getD, set, take, replicate}
 use Rattle.model.specs.Limits.{BOXES, ACTIONS}
+use Rattle.model.specs.declared.Sizes.{Sizes}
 use Rattle.text.specs.Lines.{same}
 use Rattle.sheet.specs.declared.Record.{Record}
 use Rattle.sheet.specs.declared.Record.the-variants.{Numbers, Not}
@@ -17,7 +18,7 @@ use Rattle.sheet.specs.Numbers.{onRecord, word}
 use Rattle.sheet.specs.Records.{boxLine, actLine, goLine, viewLine, arrowLine, flowLine, onFlow}
 use Rattle.sheet.specs.Phases.{Got, got, refused, phase, boxes, acts, Steps, steps, goes, drawn, flows, views}
 use Rattle.sheet.specs.Table.{Row, byRows}
-use Rattle.sheet.specs.Meaning.{Size, Situation, atFlow, atEnd, viewsFrom, goesFrom, actsFrom, boxesFrom, isArrow, after, complete}
+use Rattle.sheet.specs.Meaning.{Situation, atFlow, atEnd, viewsFrom, goesFrom, actsFrom, boxesFrom, isArrow, after, complete}
 use Rattle.sheet.proofs.ByRows.{by-rows, arrow-by-rows}
 use Rattle.sheet.proofs.Meant.{refusedAt, lineIn, walk, onJudged}
 
@@ -61,7 +62,7 @@ module _ {S : Type 0} (line : ℕ → S → List ℕ → Record) (store : ℕ �
       go (Numbers a b c d) f i = ap (λ (x : Situation). walk x ls (suc n)) (f a b c d) ∙ i (store k s a b c d)
       go (Not e) f i = refl
 
-module _ (z : Size) where
+module _ (z : Sizes) where
   box-kind : (k : ℕ) (ids : List ℕ) → k < z .boxes → Kind (λ k ids. boxLine (take k ids)) (λ k ids id _ _ _. set ids k id) (boxesFrom z) k ids
   box-kind k ids h = record {
     due = rw (lt-ltb k (z .boxes) h);

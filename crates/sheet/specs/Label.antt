@@ -34,8 +34,8 @@ placed p = At (p .start) (p .end)
 
 -- the sheet is tested before the position
 abbrev pub foundIn : Reading → List ℕ → ℕ → Found
-foundIn (model states actions boxes start p) t position =
-    cond (ltb position boxes) (placed (labelPlace t position)) (Refused 13 0)
+foundIn (model z p) t position =
+    cond (ltb position (z .boxes)) (placed (labelPlace t position)) (Refused 13 0)
 foundIn (refusal e n) t position = Refused e n
 
 unfoldable pub labelFound : List ℕ → ℕ → Found

@@ -6,6 +6,8 @@ use mathlib.Core.Bool.{Bool, true, false, cond, _&&_, _||_}
 use lib.ListN.{length, getD, set, take, replicate}
 use lib.Dec.{ltb, eqb}
 use Rattle.model.specs.Limits.{BOXES, SHEET-BYTES}
+use Rattle.model.specs.Made.{sizesFrom}
+use Rattle.model.specs.declared.Sizes.{Sizes}
 use Rattle.text.specs.Lines.{lines, same}
 use Rattle.sheet.specs.declared.Record.{Record}
 use Rattle.sheet.specs.declared.Record.the-variants.{Numbers}
@@ -15,33 +17,27 @@ use Rattle.sheet.specs.Numbers.{word}
 use Rattle.sheet.specs.Records.{arrowLimits, sized}
 use Rattle.sheet.specs.Table.{Row, row, opening, arrowMore, arrowSays, rows, says}
 
--- the sizes of the `sheet` line
-pub record Size : Type 0 where
-  pub states : ℕ
-  pub actions : ℕ
-  pub boxes : ℕ
-
 -- what is due: the `sheet` line; box, action, entry of the step table; an arrow or the first view; entry of the view table; nothing more
 pub data Situation : Type 0 where
   atSheet : Situation
-  atBox : Size → ℕ → List ℕ → Situation
-  atAct : Size → List ℕ → ℕ → Situation
-  atGo : Size → List ℕ → ℕ → Situation
-  atFlow : Size → List ℕ → Situation
-  atView : Size → List ℕ → ℕ → Situation
+  atBox : Sizes → ℕ → List ℕ → Situation
+  atAct : Sizes → List ℕ → ℕ → Situation
+  atGo : Sizes → List ℕ → ℕ → Situation
+  atFlow : Sizes → List ℕ → Situation
+  atView : Sizes → List ℕ → ℕ → Situation
   atEnd : Situation
 
 -- from a count on, or what follows
-abbrev pub viewsFrom : Size → List ℕ → ℕ → Situation
+abbrev pub viewsFrom : Sizes → List ℕ → ℕ → Situation
 viewsFrom z ids k = cond (ltb k (length ids * z .states)) (atView z ids k) atEnd
 
-abbrev pub goesFrom : Size → List ℕ → ℕ → Situation
+abbrev pub goesFrom : Sizes → List ℕ → ℕ → Situation
 goesFrom z ids k = cond (ltb k (z .states * z .actions)) (atGo z ids k) (atFlow z ids)
 
-abbrev pub actsFrom : Size → List ℕ → ℕ → Situation
+abbrev pub actsFrom : Sizes → List ℕ → ℕ → Situation
 actsFrom z ids k = cond (ltb k (z .actions)) (atAct z ids k) (goesFrom z ids 0)
 
-abbrev pub boxesFrom : Size → ℕ → List ℕ → Situation
+abbrev pub boxesFrom : Sizes → ℕ → List ℕ → Situation
 boxesFrom z k ids = cond (ltb k (z .boxes)) (atBox z k ids) (actsFrom z (take (z .boxes) ids) 0)
 
 -- is a line one of arrows
@@ -74,7 +70,7 @@ saysAt atEnd l = Numbers 0 0 0 0
 
 -- what is due after a line that said a, b, c, d
 abbrev pub after : Situation → List ℕ → ℕ → ℕ → ℕ → ℕ → Situation
-after atSheet l a b c d = boxesFrom (record { states = a; actions = b; boxes = c }) 0 (replicate BOXES 0)
+after atSheet l a b c d = boxesFrom (sizesFrom a b c d) 0 (replicate BOXES 0)
 after (atBox z k ids) l a b c d = boxesFrom z (suc k) (set ids k a)
 after (atAct z ids k) l a b c d = actsFrom z ids (suc k)
 after (atGo z ids k) l a b c d = goesFrom z ids (suc k)

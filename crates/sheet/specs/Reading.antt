@@ -5,8 +5,9 @@ use mathlib.Core.Bool.{Bool, false, cond, _&&_}
 use lib.ListN.{length, getD, take, replicate}
 use lib.Dec.{eqb}
 use Rattle.model.specs.Limits.{ACTIONS, BOXES, ARROWS, NEXT-ENTRIES, OUTPUT-ENTRIES, VIEW-ENTRIES, SHEET-BYTES}
-use Rattle.model.specs.Made.{machineFrom, modelFrom}
+use Rattle.model.specs.Made.{sizesFrom, machineFrom, modelFrom}
 use Rattle.model.specs.declared.Model as models
+use Rattle.model.specs.declared.Sizes.{Sizes}
 use Rattle.text.specs.Lines.{lines}
 use Rattle.sheet.specs.declared.Answer.{Answer}
 use Rattle.sheet.specs.declared.Answer.the-variants.{Model, Refused}
@@ -55,12 +56,12 @@ parts states actions count t v ls n =
     got (partsAs ids owners d) ls n)))
 
 -- the model that they make
-abbrev pub modelOf : ℕ → ℕ → ℕ → ℕ → Parts → models.Model
-modelOf states actions boxes start p = modelFrom (machineFrom states actions boxes start (p .owners)) (p .ids) (p .drawn .arrows)
+abbrev pub modelOf : Sizes → Parts → models.Model
+modelOf z p = modelFrom (machineFrom z (p .owners)) (p .ids) (p .drawn .arrows)
 
--- what a text says: states, actions, boxes, start and the parts of a model; or a refusal
+-- what a text says: the sizes and the parts of a model; or a refusal
 pub data Reading : Type 0 where
-  model : ℕ → ℕ → ℕ → ℕ → Parts → Reading
+  model : Sizes → Parts → Reading
   refusal : ℕ → ℕ → Reading
 
 -- no line may follow the last
@@ -74,7 +75,7 @@ unfoldable pub sheetLines : Steps → List ℕ → List (List ℕ) → Reading
 sheetLines t v [] = refusal 11 1
 sheetLines t v (l ∷ ls) =
     onRecord (sheetLine l)
-    (λ states actions count start. finish (parts states actions count t v ls 2) (model states actions count start))
+    (λ states actions count start. finish (parts states actions count t v ls 2) (model (sizesFrom states actions count start)))
     (λ e. refusal e 1)
 
 -- a table of zeros
@@ -107,8 +108,8 @@ refusedAs e n = sheetAs (Refused e n) (replicate BOXES 0) (replicate ACTIONS 0) 
 
 -- a refusal makes the tables zero
 abbrev pub given : Reading → Outcome
-given (model states actions count start p) =
-    outcome (sheetAs (Model states actions count start) (p .ids) (p .owners) (p .drawn .arrows))
+given (model z p) =
+    outcome (sheetAs (Model z) (p .ids) (p .owners) (p .drawn .arrows))
     (p .drawn .steps .next)
     (p .drawn .steps .outputs)
     (p .drawn .views)
@@ -124,7 +125,7 @@ read t next outputs views =
 
 -- what the code's sheet says, with the tables
 abbrev pub readingOf : Answer → Parts → Reading
-readingOf (Model states actions count start) p = model states actions count start p
+readingOf (Model z) p = model z p
 readingOf (Refused e n) p = refusal e n
 
 abbrev pub partsOf : Sheet → List ℕ → List ℕ → List ℕ → Parts

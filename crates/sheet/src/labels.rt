@@ -51,13 +51,8 @@ pub(crate) fn label_found(text: &[u8], position: usize) -> Found
     let answer = sheet.answer;
     match answer {
         Answer::Refused { number, line } => Found::Refused(number, line),
-        Answer::Model {
-            states: _,
-            actions: _,
-            boxes,
-            start: _,
-        } => {
-            if position < boxes {
+        Answer::Model(sizes) => {
+            if position < sizes.boxes {
                 let place = label_place(text, position);
                 return Found::At(place.start, place.end);
             }

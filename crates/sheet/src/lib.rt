@@ -4,6 +4,7 @@ mod lines;
 mod phases;
 mod quick;
 
+use model::Sizes;
 ghost use mathlib.Core.Path.{_≡_};
 ghost use Prim.Native.Nat.{_+_};
 ghost use lib.ListN.{length};
@@ -64,18 +65,10 @@ pub enum Digits {
     Other,
 }
 
-// What the reader says: the sizes and the start of a model; or a refusal.
+// What the reader says: the sizes of a model; or a refusal.
 pub enum Answer {
-    Model {
-        states: usize,
-        actions: usize,
-        boxes: usize,
-        start: usize,
-    },
-    Refused {
-        number: u8,
-        line: usize,
-    },
+    Model(Sizes),
+    Refused { number: u8, line: usize },
 }
 
 // The answer, with the ids, the positions of the actions' boxes, and the arrows beside it.
@@ -143,16 +136,9 @@ fn refused(number: u8, line: usize) -> Sheet
 }
 
 // The answer where the lines that are due are read: no line may follow them.
-fn answered(
-    text: &[u8],
-    phase: Phase,
-    states: usize,
-    actions: usize,
-    boxes: usize,
-    start: usize,
-) -> Answer
+fn answered(text: &[u8], phase: Phase, sizes: Sizes) -> Answer
     requires { ⌜ Ended (now text) ⌝ }
-    ensures { λ r. ⌜ ((p : Parts) → readingOf r p ≡ finish (told phase (now (text .entry)) p) (modelOf states actions boxes start)) ⌝ }
+    ensures { λ r. ⌜ ((p : Parts) → readingOf r p ≡ finish (told phase (now (text .entry)) p) (modelOf sizes)) ⌝ }
 {
     match phase {
         Phase::Refused { number, line } => Answer::Refused { number, line },
@@ -160,12 +146,7 @@ fn answered(
             if at < text.len() {
                 return Answer::Refused { number: 2, line };
             }
-            Answer::Model {
-                states,
-                actions,
-                boxes,
-                start,
-            }
+            Answer::Model(sizes)
         }
     }
 }
@@ -189,7 +170,8 @@ fn read_lines(text: &[u8], next: &mut [u16], outputs: &mut [u16], views: &mut [u
             let ids = body.ids;
             let owners = body.owners;
             let arrows = body.arrows;
-            let answer = answered(text, phase, states, actions, boxes, d as usize);
+            let sizes = Sizes::new(states, actions, boxes, d as usize);
+            let answer = answered(text, phase, sizes);
             Sheet {
                 answer,
                 ids,

@@ -14,7 +14,7 @@ use lib.ListN.{length, getD, set, length-set, replicate, length-replicate}
 use lib.Seq.{getD-set-same, getD-set-other}
 use borrow.Author.Tests.{eq-eqb, eqb-true}
 use Rattle.laws.proofs.Tests.{not-both, not-yes, without-none, both-true}
-use Rattle.laws.proofs.Range.{every-at}
+use Rattle.laws.proofs.Range.{every-at, every-of}
 use Rattle.laws.proofs.Search.{firstOf-empty, when-rest, when-no}
 use Rattle.model.specs.Limits.{STATES, ACTIONS, BOXES, NEXT-ENTRIES}
 use Rattle.model.specs.Denoted.{ownerAt}
@@ -51,6 +51,11 @@ alone-same : (states : ℕ) (low : List ℕ) (u : ℕ) → aloneIn states low u 
 unfolding aloneIn
 alone-same states low u h s t p q r = sym (eqb-true _ _ (every-at _ _ h s p)) ∙ r ∙ eqb-true _ _ (every-at _ _ h t q)
 
+pub alone-quiet : (states actions : ℕ) (outputs low : List ℕ) (o a : ℕ) → aloneIn states low o ≡ true → quietIn states actions outputs low o a ≡ true
+unfolding aloneIn quietIn
+alone-quiet states actions outputs low o a h =
+    every-of states _ (λ s p. eq-eqb _ _ (ap (λ x. getD outputs (x * actions + a) 0) (sym (eqb-true _ _ (every-at _ _ h s p)))))
+
 pub alones-none : (states : ℕ) (low : List ℕ) → Alones states low (replicate BOXES false)
 alones-none states low =
     record { size = length-replicate {A = Bool} BOXES false; alone = λ u e. not-both e (same-at BOXES u false) }
@@ -74,8 +79,8 @@ pub alone-owner : (states actions : ℕ) (next low : List ℕ) (u o a : ℕ) →
 alone-owner states actions next low u o a h =
     record { calm = λ s t p q r k. ap (sent actions next low u a) (alone-same states low o h s t p q k) }
 
-pub nexts : {m : Machine} {next : List ℕ} → length next ≡ NEXT-ENTRIES → GoodTable m next → Nexts (m .states) (m .actions) next
-nexts e g = record { states-most = g .machine .states-most; actions-most = g .machine .actions-most; size = e; next-in = g .next-in }
+pub nexts : {m : Machine} {next : List ℕ} → length next ≡ NEXT-ENTRIES → GoodTable m next → Nexts (m .sizes .states) (m .sizes .actions) next
+nexts e g = record { states-most = g .machine .sizes .states-most; actions-most = g .machine .sizes .actions-most; size = e; next-in = g .next-in }
 
 -- ---- no state changes
 pub idle-none : (actions : ℕ) (next : List ℕ) (a : ℕ) → Idle 0 actions next a
@@ -123,9 +128,9 @@ kept-more {states} {actions} {next} {low} {kept} {u} {a} h lu la w = record {
 }
 
 -- ---- the searches over pairs find nothing
-module _ {m : Machine} {next views low : List ℕ} (g : GoodTable m next) (w : Lows (m .states) (m .boxes) views low) where
-  tears-off : {u o a : ℕ} → u < m .boxes → o < m .boxes → a < m .actions → Calm (m .states) (m .actions) next low u o a →
-      (s t : ℕ) → s < m .states → t < m .states → tearsIn (m .states) (m .actions) next views u o a s t ≡ false
+module _ {m : Machine} {next views low : List ℕ} (g : GoodTable m next) (w : Lows (m .sizes .states) (m .sizes .boxes) views low) where
+  tears-off : {u o a : ℕ} → u < m .sizes .boxes → o < m .sizes .boxes → a < m .sizes .actions → Calm (m .sizes .states) (m .sizes .actions) next low u o a →
+      (s t : ℕ) → s < m .sizes .states → t < m .sizes .states → tearsIn (m .sizes .states) (m .sizes .actions) next views u o a s t ≡ false
   unfolding tearsIn alikeIn
   tears-off {u} {o} {a} lu lo la h s t p q =
       without-none _ _ (λ e. let b = both-true _ _ e in
@@ -133,42 +138,42 @@ module _ {m : Machine} {next views low : List ℕ} (g : GoodTable m next) (w : L
       (h .calm s t p q (least-same (w .least u s lu p) (w .least u t lu q) (eqb-true _ _ (b .0)))
       (least-same (w .least o s lo p) (w .least o t lo q) (eqb-true _ _ (b .1))))))
 
-  pub calm-none : {u o a : ℕ} → u < m .boxes → a < m .actions → o ≡ ownerAt m a → Calm (m .states) (m .actions) next low u o a →
-      stepUnder (m .states) (m .actions) (m .owners) next views u a ≡ none
+  pub calm-none : {u o a : ℕ} → u < m .sizes .boxes → a < m .sizes .actions → o ≡ ownerAt m a → Calm (m .sizes .states) (m .sizes .actions) next low u o a →
+      stepUnder (m .sizes .states) (m .sizes .actions) (m .owners) next views u a ≡ none
   calm-none {u} {o} {a} lu la e h =
-      firstOf-empty (m .states) (stepFrom (m .states) (m .actions) (m .owners) next views u a) (λ s p. when-rest true
-      (firstOf-empty (m .states) (stepAt (m .states) (m .actions) (m .owners) next views u a s) (λ t q. when-rest true (when-rest _ (when-no _
-      (tears-off lu (g .machine .owner-in a la) la (subst (λ x. Calm (m .states) (m .actions) next low u x a) e h) s t p q))))))
+      firstOf-empty (m .sizes .states) (stepFrom (m .sizes .states) (m .sizes .actions) (m .owners) next views u a) (λ s p. when-rest true
+      (firstOf-empty (m .sizes .states) (stepAt (m .sizes .states) (m .sizes .actions) (m .owners) next views u a s) (λ t q. when-rest true (when-rest _ (when-no _
+      (tears-off lu (g .machine .owner-in a la) la (subst (λ x. Calm (m .sizes .states) (m .sizes .actions) next low u x a) e h) s t p q))))))
 
   -- the search over states finds nothing
-  pub keeps-still : {u a : ℕ} (owners : List ℕ) (arrows : List Bool) → u < m .boxes → a < m .actions → Keeps (m .states) (m .actions) next low u a →
-      respectFrom (m .states) (m .actions) owners arrows next views u a ≡ none
+  pub keeps-still : {u a : ℕ} (owners : List ℕ) (arrows : List Bool) → u < m .sizes .boxes → a < m .sizes .actions → Keeps (m .sizes .states) (m .sizes .actions) next low u a →
+      respectFrom (m .sizes .states) (m .sizes .actions) owners arrows next views u a ≡ none
   unfolding movesIn alikeIn
   keeps-still {u} {a} owners arrows lu la h =
-      when-rest _ (firstOf-empty (m .states) (respectAt (m .states) (m .actions) owners arrows next views u a)
+      when-rest _ (firstOf-empty (m .sizes .states) (respectAt (m .sizes .states) (m .sizes .actions) owners arrows next views u a)
       (λ s p. when-rest true (when-no _ (sym (not-yes
       (eq-eqb _ _ (least-like (w .least u s lu p) (w .least u _ lu (g .next-in s a p la)) (h .keeps s p))))))))
 
-  pub alone-none : {u : ℕ} → u < m .boxes → aloneIn (m .states) low u ≡ true → stepOf (m .states) (m .actions) (m .owners) next views u ≡ none
+  pub alone-none : {u : ℕ} → u < m .sizes .boxes → aloneIn (m .sizes .states) low u ≡ true → stepOf (m .sizes .states) (m .sizes .actions) (m .owners) next views u ≡ none
   alone-none {u} lu h =
-      firstOf-empty (m .actions) (stepUnder (m .states) (m .actions) (m .owners) next views u)
-      (λ a la. calm-none lu la refl (alone-calm (m .states) (m .actions) next low u (ownerAt m a) a h))
+      firstOf-empty (m .sizes .actions) (stepUnder (m .sizes .states) (m .sizes .actions) (m .owners) next views u)
+      (λ a la. calm-none lu la refl (alone-calm (m .sizes .states) (m .sizes .actions) next low u (ownerAt m a) a h))
 
-pub quiet-none : {m : Machine} {views low : List ℕ} {o a : ℕ} (outputs : List ℕ) → GoodMachine m → Lows (m .states) (m .boxes) views low →
-    a < m .actions → o ≡ ownerAt m a → quietIn (m .states) (m .actions) outputs low o a ≡ true →
-    outputOf (m .states) (m .actions) (m .owners) outputs views a ≡ none
+pub quiet-none : {m : Machine} {views low : List ℕ} {o a : ℕ} (outputs : List ℕ) → GoodMachine m → Lows (m .sizes .states) (m .sizes .boxes) views low →
+    a < m .sizes .actions → o ≡ ownerAt m a → quietIn (m .sizes .states) (m .sizes .actions) outputs low o a ≡ true →
+    outputOf (m .sizes .states) (m .sizes .actions) (m .owners) outputs views a ≡ none
 unfolding quietIn leaksIn alikeIn
 quiet-none {m} {views} {low} {o} {a} outputs g w la e h =
-    firstOf-empty (m .states) (outputFrom (m .states) (m .actions) (m .owners) outputs views a) (λ s p. when-rest true
-    (firstOf-empty (m .states) (outputAt (m .states) (m .actions) (m .owners) outputs views a s) (λ t q. when-rest true (when-rest _ (when-no _
+    firstOf-empty (m .sizes .states) (outputFrom (m .sizes .states) (m .sizes .actions) (m .owners) outputs views a) (λ s p. when-rest true
+    (firstOf-empty (m .sizes .states) (outputAt (m .sizes .states) (m .sizes .actions) (m .owners) outputs views a s) (λ t q. when-rest true (when-rest _ (when-no _
     (without-none _ _ (λ k. eq-eqb _ _ (equal s t p q (eqb-true _ _ (rw (sym e) at k))))))))))
   where
-    own : o < m .boxes
-    own = subst (λ x. x < m .boxes) (sym e) (g .owner-in a la)
+    own : o < m .sizes .boxes
+    own = subst (λ x. x < m .sizes .boxes) (sym e) (g .owner-in a la)
 
-    equal : (s t : ℕ) → s < m .states → t < m .states → classAt (m .states) views o s ≡ classAt (m .states) views o t →
-        getD outputs (s * m .actions + a) 0 ≡ getD outputs (t * m .actions + a) 0
+    equal : (s t : ℕ) → s < m .sizes .states → t < m .sizes .states → classAt (m .sizes .states) views o s ≡ classAt (m .sizes .states) views o t →
+        getD outputs (s * m .sizes .actions + a) 0 ≡ getD outputs (t * m .sizes .actions + a) 0
     equal s t p q k =
         eqb-true _ _ (every-at _ _ h s p)
-        ∙ ap (λ x. getD outputs (x * m .actions + a) 0) (least-same (w .least o s own p) (w .least o t own q) k)
+        ∙ ap (λ x. getD outputs (x * m .sizes .actions + a) 0) (least-same (w .least o s own p) (w .least o t own q) k)
         ∙ sym (eqb-true _ _ (every-at _ _ h t q))

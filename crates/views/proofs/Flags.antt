@@ -15,11 +15,11 @@ use Rattle.views.specs.declared.Judgement.{Judgement}
 use Rattle.views.specs.declared.Judgement.the-variants.{Accepted, Output, Respect, Step}
 
 -- the action's box is a box
-pub owner-in : {m : Machine} {o a : ℕ} → GoodMachine m → a < m .actions → o ≡ ownerAt m a → o < m .boxes
+pub owner-in : {m : Machine} {o a : ℕ} → GoodMachine m → a < m .sizes .actions → o ≡ ownerAt m a → o < m .sizes .boxes
 owner-in {m} {o} {a} g l e = let h = g .owner-in a l in omega arith
 
-pub owner-small : {m : Machine} {o a : ℕ} → GoodMachine m → a < m .actions → o ≡ ownerAt m a → o < BOXES
-owner-small {m} {o} {a} g l e = let h = g .owner-in a l in let k = g .boxes-most in omega arith
+pub owner-small : {m : Machine} {o a : ℕ} → GoodMachine m → a < m .sizes .actions → o ≡ ownerAt m a → o < BOXES
+owner-small {m} {o} {a} g l e = let h = g .owner-in a l in let k = g .sizes .boxes-most in omega arith
 
 -- ---- the answer of a search; y is the search x read off the tables
 pub answer-none : {v : Judgement} {x y : Option Place} → x ≡ y → v ≡ Accepted → y ≡ none → v ≡ answer x

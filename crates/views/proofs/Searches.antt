@@ -57,18 +57,18 @@ module _ (states actions : ℕ) (owners next views : List ℕ) where
 
 module _ (m : Machine) (next outputs views : List ℕ) where
   pub output-is : firstOutput (machineOf m next outputs) everyState (viewOf m views)
-      ≡ firstOf (m .actions) (outputOf (m .states) (m .actions) (m .owners) outputs views)
+      ≡ firstOf (m .sizes .actions) (outputOf (m .sizes .states) (m .sizes .actions) (m .owners) outputs views)
   unfolding firstOutput leaks leaksIn alikeIn
   output-is = refl
 
   pub step-is : firstStep intransitive (machineOf m next outputs) everyState (viewOf m views)
-      ≡ firstOf (m .boxes) (stepOf (m .states) (m .actions) (m .owners) next views)
+      ≡ firstOf (m .sizes .boxes) (stepOf (m .sizes .states) (m .sizes .actions) (m .owners) next views)
   unfolding firstStep tears alikeToo tearsIn alikeIn
   step-is = refl
 
 pub respect-is : (m : Model) (next outputs views : List ℕ) →
     firstRespect (machineOf (m .machine) next outputs) everyState (policyOf m) (viewOf (m .machine) views)
-    ≡ firstOf (m .machine .boxes) (respectOf (m .machine .states) (m .machine .actions) (m .machine .owners) (m .arrows) next views)
+    ≡ firstOf (m .machine .sizes .boxes) (respectOf (m .machine .sizes .states) (m .machine .sizes .actions) (m .machine .owners) (m .arrows) next views)
 unfolding firstRespect moves movesIn alikeIn
 respect-is m next outputs views = refl
 

@@ -59,7 +59,7 @@ module _ (m : Model) (next outputs views : List ℕ) where
 
   -- every state of the table
   abbrev tabled : States
-  tabled s = s < m .machine .states
+  tabled s = s < m .machine .sizes .states
 
   abbrev view : ℕ → ℕ → ℕ
   view = viewOf (m .machine) views
@@ -89,7 +89,7 @@ module _ (m : Model) (next outputs views : List ℕ) where
       (λ f. answer-refused x (sym (refused-12 l f) ∙ e)))
       (λ l. answer-refused x (sym (refused-10 l) ∙ e))
 
-  in-table : (s : ℕ) → tabled s ↔ ((s < m .machine .states) × (everyState s ≡ true))
+  in-table : (s : ℕ) → tabled s ↔ ((s < m .machine .sizes .states) × (everyState s ≡ true))
   in-table s = (λ l. (l, refl), λ p. p .0)
 
   searched-accepted : (found ≡ none) ↔ Conditions intransitive denoted tabled (policyOf m) (ByView view)

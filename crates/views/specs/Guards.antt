@@ -10,16 +10,16 @@ use Rattle.model.specs.Limits.{STATES, ACTIONS, BOXES, NEXT-ENTRIES}
 
 -- the first alike states; the slots of one box; the numbers of pairs of classes; what is noted for each box and action
 abbrev pub LOWS : ℕ
-LOWS = 2048
+LOWS = BOXES * STATES
 
 abbrev pub SLOTS : ℕ
 SLOTS = 256
 
 abbrev pub SPOTS : ℕ
-SPOTS = 16384
+SPOTS = STATES * STATES
 
 abbrev pub KEPT : ℕ
-KEPT = 512
+KEPT = BOXES * ACTIONS
 
 abbrev pub classAt : ℕ → List ℕ → ℕ → ℕ → ℕ
 classAt states views u s = getD views (u * states + s) 0
@@ -68,6 +68,27 @@ slotOf c = (c / SLOTS + c % SLOTS) % SLOTS
 pub record Slots (states : ℕ) (views : List ℕ) (u n : ℕ) (slots : List ℕ) : Type 0 where
   pub size : length slots ≡ SLOTS
   pub upto : (j : ℕ) → j < n → getD slots (slotOf (classAt states views u j)) 0 ≤ j
+
+-- another small number, which no two classes share that share the first
+unfoldable pub otherOf : ℕ → ℕ
+otherOf c = c / SLOTS % SLOTS
+
+-- the second slot of each state below n whose first slot names another class names that state or an earlier one
+pub record Others (states : ℕ) (views : List ℕ) (u n : ℕ) (slots others : List ℕ) : Type 0 where
+  pub size : length others ≡ SLOTS
+  pub upto : (j : ℕ) → j < n → (classAt states views u (getD slots (slotOf (classAt states views u j)) 0) ≡ classAt states views u j → ⊥) →
+      getD others (otherOf (classAt states views u j)) 0 ≤ j
+
+-- the second slot of s names no state after an earlier one of its class
+pub record Second (states : ℕ) (views : List ℕ) (u s : ℕ) (others : List ℕ) : Type 0 where
+  pub size : length others ≡ SLOTS
+  pub upto : (j : ℕ) → j < s → classAt states views u j ≡ classAt states views u s → getD others (otherOf (classAt states views u s)) 0 ≤ j
+
+-- after s was seen to, its second slot names it or an earlier one, and no slot names a later state than before
+pub record Noted (states : ℕ) (views : List ℕ) (u s : ℕ) (before after : List ℕ) : Type 0 where
+  pub size : length after ≡ SLOTS
+  pub here : getD after (otherOf (classAt states views u s)) 0 ≤ s
+  pub lower : (i : ℕ) → getD after i 0 ≤ getD before i 0
 
 -- what the next states keep to
 pub record Nexts (states actions : ℕ) (next : List ℕ) : Type 0 where

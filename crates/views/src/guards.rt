@@ -4,18 +4,18 @@ ghost use mathlib.Core.Bool.{true, false};
 ghost use Prim.Native.Nat.{_+_, _*_, _<_, _≤_};
 ghost use lib.ListN.{length, getD};
 ghost use Rattle.model.specs.Limits.{STATES, ACTIONS, BOXES, NEXT-ENTRIES, OUTPUT-ENTRIES};
-ghost use Rattle.views.specs.Guards.{SLOTS, SPOTS, lowAt, sent, spot, Least, Small, Low, Lows, Filled, slotOf, Slots, Nexts, Idle, Keeps, Kept, Alones, aloneIn, strongIn, quietIn, Links, Calm};
+ghost use Rattle.views.specs.Guards.{SLOTS, SPOTS, lowAt, sent, spot, Least, Small, Low, Lows, Filled, slotOf, otherOf, Slots, Others, Second, Noted, Nexts, Idle, Keeps, Kept, Alones, aloneIn, strongIn, quietIn, Links, Calm};
 use super::entry;
 
 // The first alike states, box × STATES + state; the slots of one box; the numbers of pairs of classes.
-pub const LOWS: usize = 2048;
+pub const LOWS: usize = model::BOXES * model::STATES;
 
 const SLOTS: usize = 256;
 
-pub const SPOTS: usize = 16384;
+pub const SPOTS: usize = model::STATES * model::STATES;
 
 // What is noted for each box and action, box × ACTIONS + action.
-pub const KEPT: usize = 512;
+pub const KEPT: usize = model::BOXES * model::ACTIONS;
 
 fn broad(x: u16) -> usize
     ensures { λ r. ⌜ r ≡ x ⌝ }
@@ -43,6 +43,13 @@ fn slot_of(class: usize) -> usize
     (class / SLOTS + class % SLOTS) % SLOTS
 }
 
+// Another, which classes that share the first do not share.
+fn other_of(class: usize) -> usize
+    ensures { λ r. ⌜ (r ≡ otherOf class) × (r < SLOTS) ⌝ }
+{
+    class / SLOTS % SLOTS
+}
+
 // The first state with the class of s, by looking at each.
 fn first_like(views: &[u16], states: usize, u: usize, s: usize) -> usize
     requires { ⌜ (states ≤ STATES) × (u < BOXES) × (s < states) ⌝ }
@@ -56,11 +63,40 @@ fn first_like(views: &[u16], states: usize, u: usize, s: usize) -> usize
     s
 }
 
+// The same where the first slot names a state of another class, by way of the second slots.
+fn first_other(views: &[u16], others: &mut [u8; SLOTS], states: usize, u: usize, s: usize) -> usize
+    requires { ⌜ Second states (now views) u s (now others) ⌝ }
+    requires { ⌜ (states ≤ STATES) × (u < BOXES) × (s < states) ⌝ }
+    ensures { λ r. ⌜ Noted states (now (views .entry)) u s (now (others .entry)) (now (others .exit)) ⌝ }
+    ensures { λ r. ⌜ Least states (now (views .entry)) u s r ⌝ }
+{
+    let class = entry(views, u, states, s);
+    let slot = other_of(class);
+    let t = wide(others[slot]);
+    if s <= t {
+        others[slot] = narrow(s);
+        return s;
+    }
+    if entry(views, u, states, t) == class {
+        return t;
+    }
+    first_like(views, states, u, s)
+}
+
 // The same by way of the slots, which name the first state that has each small number.
-fn first_alike(views: &[u16], slots: &mut [u8; SLOTS], states: usize, u: usize, s: usize) -> usize
+fn first_alike(
+    views: &[u16],
+    slots: &mut [u8; SLOTS],
+    others: &mut [u8; SLOTS],
+    states: usize,
+    u: usize,
+    s: usize,
+) -> usize
     requires { ⌜ Slots states (now views) u s (now slots) ⌝ }
+    requires { ⌜ Others states (now views) u s (now slots) (now others) ⌝ }
     requires { ⌜ (states ≤ STATES) × (u < BOXES) × (s < states) ⌝ }
     ensures { λ r. ⌜ Slots states (now (views .entry)) u (s + 1) (now (slots .exit)) ⌝ }
+    ensures { λ r. ⌜ Others states (now (views .entry)) u (s + 1) (now (slots .exit)) (now (others .exit)) ⌝ }
     ensures { λ r. ⌜ Least states (now (views .entry)) u s r ⌝ }
 {
     let class = entry(views, u, states, s);
@@ -73,7 +109,7 @@ fn first_alike(views: &[u16], slots: &mut [u8; SLOTS], states: usize, u: usize, 
     if entry(views, u, states, t) == class {
         return t;
     }
-    first_like(views, states, u, s)
+    first_other(views, others, states, u, s)
 }
 
 // The first alike states of one box more.
@@ -83,8 +119,9 @@ fn fill_row(views: &[u16], low: &mut [u8; LOWS], states: usize, u: usize)
     ensures { λ r. ⌜ Filled states (now (views .entry)) (now (low .exit)) (u + 1) 0 ⌝ }
 {
     let mut slots = [255u8; SLOTS];
+    let mut others = [255u8; SLOTS];
     'states: for s in 0..states {
-        let r = first_alike(views, &mut slots, states, u, s);
+        let r = first_alike(views, &mut slots, &mut others, states, u, s);
         low[u * model::STATES + s] = narrow(r);
     }
 }
@@ -364,7 +401,7 @@ pub(crate) fn settled(
 }
 
 // Whether the action's output at each state is that at the first one alike to o, its box.
-pub(crate) fn quiet(
+fn quiet(
     low: &[u8; LOWS],
     outputs: &[u16],
     states: usize,
@@ -384,4 +421,26 @@ pub(crate) fn quiet(
         }
     }
     true
+}
+
+// The same, and of a box to which no two states are alike without looking.
+pub(crate) fn silent(
+    low: &[u8; LOWS],
+    outputs: &[u16],
+    alones: &[bool; model::BOXES],
+    states: usize,
+    actions: usize,
+    o: usize,
+    a: usize,
+) -> bool
+    requires { ⌜ length (now outputs) ≡ OUTPUT-ENTRIES ⌝ }
+    requires { ⌜ Low states (now low) o ⌝ }
+    requires { ⌜ Alones states (now low) (now alones) ⌝ }
+    requires { ⌜ (states ≤ STATES) × (actions ≤ ACTIONS) × (o < BOXES) × (a < actions) ⌝ }
+    ensures { λ r. ⌜ r ≡ quietIn states actions (now (outputs .entry)) (now (low .entry)) o a ⌝ }
+{
+    if is_alone(alones, o) {
+        return true;
+    }
+    quiet(low, outputs, states, actions, o, a)
 }

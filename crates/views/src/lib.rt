@@ -134,19 +134,21 @@ fn first_output(
     outputs: &[u16],
     views: &[u16],
     low: &[u8; guards::LOWS],
+    alones: &[bool; model::BOXES],
 ) -> Judgement
     requires { ⌜ length (now outputs) ≡ OUTPUT-ENTRIES ⌝ }
     requires { ⌜ GoodMachine machine ⌝ }
-    requires { ⌜ Lows (machine .states) (machine .boxes) (now views) (now low) ⌝ }
+    requires { ⌜ Lows (machine .sizes .states) (machine .sizes .boxes) (now views) (now low) ⌝ }
+    requires { ⌜ Alones (machine .sizes .states) (now low) (now alones) ⌝ }
     ensures { λ r. ⌜ r ≡ answer (firstOutput (machineOf machine [] (now (outputs .entry))) everyState (viewOf machine (now (views .entry)))) ⌝ }
 {
-    let states = machine.states;
-    let actions = machine.actions;
+    let states = machine.sizes.states;
+    let actions = machine.sizes.actions;
     let owners = machine.owners;
     let mut found = Judgement::Accepted;
     'actions: for a in 0..actions {
         let o = model::owner(&owners, a);
-        if guards::quiet(low, outputs, states, actions, o, a) {
+        if guards::silent(low, outputs, alones, states, actions, o, a) {
             continue 'actions;
         }
         'firsts: for s in 0..states {
@@ -171,15 +173,15 @@ fn first_respect(
 ) -> Judgement
     requires { ⌜ length (now next) ≡ NEXT-ENTRIES ⌝ }
     requires { ⌜ GoodTable (model .machine) (now next) ⌝ }
-    requires { ⌜ Lows (model .machine .states) (model .machine .boxes) (now views) (now low) ⌝ }
-    requires { ⌜ Kept (model .machine .states) (model .machine .actions) (now next) (now low) (now kept) ⌝ }
-    ensures { λ r. ⌜ Kept (model .machine .states) (model .machine .actions) (now (next .entry)) (now (low .entry)) (now (kept .exit)) ⌝ }
+    requires { ⌜ Lows (model .machine .sizes .states) (model .machine .sizes .boxes) (now views) (now low) ⌝ }
+    requires { ⌜ Kept (model .machine .sizes .states) (model .machine .sizes .actions) (now next) (now low) (now kept) ⌝ }
+    ensures { λ r. ⌜ Kept (model .machine .sizes .states) (model .machine .sizes .actions) (now (next .entry)) (now (low .entry)) (now (kept .exit)) ⌝ }
     ensures { λ r. ⌜ r ≡ answer (firstRespect (machineOf (model .machine) (now (next .entry)) []) everyState (policyOf model) (viewOf (model .machine) (now (views .entry)))) ⌝ }
 {
     let machine = model.machine;
-    let states = machine.states;
-    let actions = machine.actions;
-    let boxes = machine.boxes;
+    let states = machine.sizes.states;
+    let actions = machine.sizes.actions;
+    let boxes = machine.sizes.boxes;
     let owners = machine.owners;
     let arrows = model.arrows;
     let mut found = Judgement::Accepted;
@@ -218,14 +220,14 @@ fn first_step(
 ) -> Judgement
     requires { ⌜ length (now next) ≡ NEXT-ENTRIES ⌝ }
     requires { ⌜ GoodTable machine (now next) ⌝ }
-    requires { ⌜ Lows (machine .states) (machine .boxes) (now views) (now low) ⌝ }
-    requires { ⌜ Kept (machine .states) (machine .actions) (now next) (now low) (now kept) ⌝ }
-    requires { ⌜ Alones (machine .states) (now low) (now alones) ⌝ }
+    requires { ⌜ Lows (machine .sizes .states) (machine .sizes .boxes) (now views) (now low) ⌝ }
+    requires { ⌜ Kept (machine .sizes .states) (machine .sizes .actions) (now next) (now low) (now kept) ⌝ }
+    requires { ⌜ Alones (machine .sizes .states) (now low) (now alones) ⌝ }
     ensures { λ r. ⌜ r ≡ answer (firstStep intransitive (machineOf machine (now (next .entry)) []) everyState (viewOf machine (now (views .entry)))) ⌝ }
 {
-    let states = machine.states;
-    let actions = machine.actions;
-    let boxes = machine.boxes;
+    let states = machine.sizes.states;
+    let actions = machine.sizes.actions;
+    let boxes = machine.sizes.boxes;
     let owners = machine.owners;
     let mut found = Judgement::Accepted;
     let mut table = [0u8; guards::SPOTS];
@@ -274,11 +276,12 @@ fn first_broken(model: Model, next: &[u16], outputs: &[u16], views: &[u16]) -> J
     ensures { λ r. ⌜ r ≡ firstBroken model (now (next .entry)) (now (outputs .entry)) (now (views .entry)) ⌝ }
 {
     let machine = model.machine;
-    let states = machine.states;
-    let actions = machine.actions;
-    let boxes = machine.boxes;
+    let states = machine.sizes.states;
+    let actions = machine.sizes.actions;
+    let boxes = machine.sizes.boxes;
     let low = guards::lows(views, states, boxes);
-    let output = first_output(machine, outputs, views, &low);
+    let alones = guards::alones(&low, states, boxes);
+    let output = first_output(machine, outputs, views, &low, &alones);
     let Judgement::Accepted = output else {
         return output;
     };
@@ -287,7 +290,6 @@ fn first_broken(model: Model, next: &[u16], outputs: &[u16], views: &[u16]) -> J
     let Judgement::Accepted = respect else {
         return respect;
     };
-    let alones = guards::alones(&low, states, boxes);
     first_step(machine, next, views, &low, &kept, &alones)
 }
 

@@ -7,7 +7,7 @@ use mathlib.Core.List.{List}
 use mathlib.Core.Option.{some}
 use Prim.Native.Nat.{ℕ, _-_, _*_, _<_, _≤_}
 use native.Mathlib.Omega.{arith}
-use native.Mathlib.Nat.{mul-le-mul}
+use native.Mathlib.Nat.{le-refl}
 use native.Mathlib.Decide.{decLt}
 use lib.ListN.{length, getD}
 use Rattle.laws.specs.Range.{count}
@@ -17,7 +17,8 @@ use Rattle.laws.proofs.Tables.{zero-at}
 use Rattle.noninterference.specs.Place.{Place, output, respect, step}
 use Rattle.noninterference.specs.Reached.{reached}
 use Rattle.noninterference.specs.Rounds.{neededList}
-use Rattle.model.specs.Limits.{BOXES, STATES}
+use Rattle.model.specs.Limits.{BOXES, STATES, PAIRS}
+use Rattle.model.proofs.Limits.{pairs-most}
 use Rattle.model.specs.Denoted.{machineOf}
 use Rattle.model.specs.Good.{GoodTable}
 use Rattle.model.specs.Refused.{modelTableFits, machineTableFits}
@@ -39,15 +40,15 @@ module _ (m : Model) (next outputs views : List ℕ) where
   unfolding answer
   place-small g (output a s t) e =
       let b = first-place m next outputs views (output a s t) e .breaks in
-      let l = b .0 in let i = b .2 in let j = b .3 in let n = g .machine .states-most in let k = g .machine .actions-most in
+      let l = b .0 in let i = b .2 in let j = b .3 in let n = g .machine .sizes .states-most in let k = g .machine .sizes .actions-most in
       (omega arith, omega arith, omega arith)
   place-small g (respect u a s) e =
       let b = first-place m next outputs views (respect u a s) e .breaks in
-      let l = b .1 in let i = b .2 in let n = g .machine .states-most in let k = g .machine .actions-most in
+      let l = b .1 in let i = b .2 in let n = g .machine .sizes .states-most in let k = g .machine .sizes .actions-most in
       (omega arith, omega arith)
   place-small g (step u a s t) e =
       let b = first-place m next outputs views (step u a s t) e .breaks in
-      let l = b .1 in let i = b .3 in let j = b .4 in let n = g .machine .states-most in let k = g .machine .actions-most in
+      let l = b .1 in let i = b .3 in let j = b .4 in let n = g .machine .sizes .states-most in let k = g .machine .sizes .actions-most in
       (omega arith, omega arith, omega arith)
 
   pub small : Small (judgementOf m next outputs views)
@@ -68,15 +69,15 @@ module _ (m : Machine) (next outputs list : List ℕ) where
   found-few l f =
       let d = demand-3 m next outputs list l f .1 in
       let g = table-good m next .0 f in
-      let b = g .machine .boxes-most in
-      let s = g .machine .states-most in
-      let c : count (m .states) (reached (machineOf m next outputs)) ≤ m .states = count-le (m .states) (reached (machineOf m next outputs)) in
-      let p : m .boxes * (m .boxes - 1) ≤ 16 * 15 = mul-le-mul {m₂ = 15} b (omega arith) in
+      let b = g .machine .sizes .boxes-most in
+      let s = g .machine .sizes .states-most in
+      let c : count (m .sizes .states) (reached (machineOf m next outputs)) ≤ m .sizes .states = count-le (m .sizes .states) (reached (machineOf m next outputs)) in
+      let p : m .sizes .boxes * (m .sizes .boxes - 1) ≤ PAIRS = pairs-most (le-refl _) b in
       let q = d .few in
-      record { pairs-few = omega arith; reach-small = omega arith; depth-small = λ u. depth d c s u (decLt u (m .boxes)) }
+      record { pairs-few = omega arith; reach-small = omega arith; depth-small = λ u. depth d c s u (decLt u (m .sizes .boxes)) }
     where
-      depth : Demand (machineOf m next outputs) (length (neededList (machineOf m next outputs))) (count (m .states) (reached (machineOf m next outputs))) (depthsOf (machineOf m next outputs)) (listOf m next outputs list) →
-          count (m .states) (reached (machineOf m next outputs)) ≤ m .states → m .states ≤ STATES → (u : ℕ) → Dec (u < m .boxes) →
+      depth : Demand (machineOf m next outputs) (length (neededList (machineOf m next outputs))) (count (m .sizes .states) (reached (machineOf m next outputs))) (depthsOf (machineOf m next outputs)) (listOf m next outputs list) →
+          count (m .sizes .states) (reached (machineOf m next outputs)) ≤ m .sizes .states → m .sizes .states ≤ STATES → (u : ℕ) → Dec (u < m .sizes .boxes) →
           getD (depthsOf (machineOf m next outputs)) u 0 < 65536
       depth d c s u (yes l) = let h = d .below-reach u l in omega arith
       depth d c s u (no l) = let h = d .beyond u (omega arith) in omega arith

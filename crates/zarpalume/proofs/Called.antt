@@ -14,6 +14,7 @@ use Rattle.laws.proofs.Tables.{drop-zeros}
 use Rattle.laws.proofs.Tests.{choose-no, choose-yes}
 use Rattle.model.specs.Limits.{NEXT-ENTRIES, OUTPUT-ENTRIES, VIEW-ENTRIES, VERDICT-BYTES, BOXES}
 use Rattle.model.specs.Made.{machineFrom, modelFrom}
+use Rattle.model.specs.declared.Sizes.{Sizes}
 use Rattle.model.specs.declared.Machine.{Machine}
 use Rattle.model.specs.declared.Model.{Model}
 use Rattle.model.proofs.Good.{model-table-good}
@@ -45,9 +46,9 @@ unfolding callOf
 call-bad sheet buffer h = choose-no _ h refl
 
 -- ---- the model m that the code makes, of the machine k
-pub few-boxes : {m : Model} {k : Machine} {states actions boxes start : ℕ} {owners ids : List ℕ} {arrows : List Bool} →
-    m ≡ modelFrom k ids arrows → k ≡ machineFrom states actions boxes start owners → boxes ≤ BOXES → m .machine .boxes ≤ BOXES
-few-boxes hm hk h = subst (λ (m : Model). m .machine .boxes ≤ BOXES) (sym hm) (subst (λ (k : Machine). k .boxes ≤ BOXES) (sym hk) h)
+pub few-boxes : {m : Model} {k : Machine} {z : Sizes} {owners ids : List ℕ} {arrows : List Bool} →
+    m ≡ modelFrom k ids arrows → k ≡ machineFrom z owners → z .boxes ≤ BOXES → m .machine .sizes .boxes ≤ BOXES
+few-boxes hm hk h = subst (λ (m : Model). m .machine .sizes .boxes ≤ BOXES) (sym hm) (subst (λ (k : Machine). k .sizes .boxes ≤ BOXES) (sym hk) h)
 
 pub verdict-on : (next outputs views : List ℕ) {m : Model} {k k′ : Machine} {ids v : List ℕ} {arrows : List Bool} →
     m ≡ modelFrom k ids arrows → k ≡ k′ → verdictOf (modelFrom k′ ids arrows) next outputs views ≡ v → verdictOf m next outputs views ≡ v
@@ -68,7 +69,7 @@ module _ (t next₀ outputs₀ views₀ : List ℕ) (s : Sheet) (next outputs vi
     where
       go : (a : Answer) → readingOf a p ≡ sheetText t → LineSmall a
       go (answers.Refused number n) h = line-small t (sym h)
-      go (answers.Model states actions boxes start) h = tt
+      go (answers.Model z) h = tt
 
   -- the tag that the call tested
   pub refused-said : OneOf (1 ∷ []) (tagOf answered.the-type (s .answer)) → refusalOf (s .answer) ≡ verdict t
@@ -77,14 +78,14 @@ module _ (t next₀ outputs₀ views₀ : List ℕ) (s : Sheet) (next outputs vi
     where
       go : (a : Answer) → OneOf (1 ∷ []) (tagOf answered.the-type a) → readingOf a p ≡ sheetText t → refusalOf a ≡ said (sheetText t)
       go (answers.Refused number n) k h = ap said h
-      go (answers.Model states actions boxes start) k h = absurd (omega arith)
+      go (answers.Model z) k h = absurd (omega arith)
 
-  pub model-said : {states actions boxes start : ℕ} → s .answer ≡ answers.Model states actions boxes start →
-      verdictOf (modelOf states actions boxes start p) next outputs views ≡ verdict t
+  pub model-said : {z : Sizes} → s .answer ≡ answers.Model z →
+      verdictOf (modelOf z p) next outputs views ≡ verdict t
   unfolding verdict
   model-said e = ap said (sym (ap (λ a. readingOf a p) e) ∙ as-read)
 
-  pub boxes-most : {states actions boxes start : ℕ} → s .answer ≡ answers.Model states actions boxes start → boxes ≤ BOXES
+  pub boxes-most : {z : Sizes} → s .answer ≡ answers.Model z → z .boxes ≤ BOXES
   boxes-most e =
       let f = read-fits t (sym as-read ∙ ap (λ a. readingOf a p) e) in
-      model-table-good _ _ .0 (f .0) .0 .machine .boxes-most
+      model-table-good _ _ .0 (f .0) .0 .machine .sizes .boxes-most

@@ -27,7 +27,7 @@ joined ids list depths v boxes k q n hk hq =
 pub verdict-is : (m : Model) (next outputs views list : List ℕ) (j : Judgement) (n : Needs) → j ≡ judgementOf m next outputs views →
     n ≡ neededOf (m .machine) next outputs blank → list ≡ listOf (m .machine) next outputs blank →
     viewsLine (m .ids) (m .machine .owners) j
-    ++ (needLines (m .ids) list (pairs (n .outcome)) ++ (depthLines (m .ids) (n .depths) (m .machine .boxes) ++ reachLine (reached (n .outcome))))
+    ++ (needLines (m .ids) list (pairs (n .outcome)) ++ (depthLines (m .ids) (n .depths) (m .machine .sizes .boxes) ++ reachLine (reached (n .outcome))))
     ≡ verdictOf m next outputs views
 unfolding verdictOf
 verdict-is m next outputs views list j n hj hn hl = rw (hj, hn, hl)

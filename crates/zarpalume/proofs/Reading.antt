@@ -64,7 +64,7 @@ toReading o = readingOf (o .sheet .answer) (partsOf (o .sheet) (o .next) (o .out
 
 given-back : (rd : Reading) → toReading (given rd) ≡ rd
 unfolding toReading
-given-back (model states actions boxes start p) = refl
+given-back (model z p) = refl
 given-back (refusal e n) = refl
 
 pub reading-is : (t next₀ outputs₀ views₀ : List ℕ) (s : Sheet) (next outputs views : List ℕ) →

@@ -4,11 +4,10 @@ use mathlib.Core.List.{List, [], _++_}
 use lib.Dec.{eqb}
 use lib.ListN.{length, getD, replicate}
 use Rattle.laws.specs.Choice.{choose}
-use Rattle.model.specs.Limits.{LIST-ENTRIES, VERDICT-BYTES}
+use Rattle.model.specs.Limits.{PAIRS, LIST-ENTRIES, VERDICT-BYTES}
 use Rattle.model.specs.declared.Model.{Model}
 use Rattle.views.specs.Judgement.{judgementOf}
 use Rattle.needs.specs.Answered.{neededOf, listOf}
-use Rattle.needs.specs.Listed.{PAIRS}
 use Rattle.needs.specs.declared.Needs.{Needs}
 use Rattle.needs.specs.declared.Outcome.{Outcome}
 use Rattle.needs.specs.declared.Outcome.the-variants.{Found, Refused}
@@ -41,23 +40,23 @@ verdictOf m next outputs views =
     let needs = neededOf (m .machine) next outputs blank in
     viewsLine (m .ids) (m .machine .owners) (judgementOf m next outputs views)
     ++ (needLines (m .ids) (listOf (m .machine) next outputs blank) (pairs (needs .outcome))
-    ++ (depthLines (m .ids) (needs .depths) (m .machine .boxes) ++ reachLine (reached (needs .outcome))))
+    ++ (depthLines (m .ids) (needs .depths) (m .machine .sizes .boxes) ++ reachLine (reached (needs .outcome))))
 
 -- the line of a refused answer
 abbrev pub refusalOf : Answer → List ℕ
 refusalOf (answers.Refused number line) = refusedLine number line
-refusalOf (answers.Model states actions boxes start) = []
+refusalOf (answers.Model z) = []
 
 -- its line number fits
 abbrev pub LineSmall : Answer → Type 0
 LineSmall (answers.Refused number line) = line < 65536
-LineSmall (answers.Model states actions boxes start) = Unit {0}
+LineSmall (answers.Model z) = Unit {0}
 
 -- one line for a refusal; else the verdict on the model
 abbrev pub said : Reading → List ℕ
 said (refusal number line) = refusedLine number line
-said (model states actions boxes start p) =
-    verdictOf (modelOf states actions boxes start p) (p .drawn .steps .next) (p .drawn .steps .outputs) (p .drawn .views)
+said (model z p) =
+    verdictOf (modelOf z p) (p .drawn .steps .next) (p .drawn .steps .outputs) (p .drawn .views)
 
 unfoldable pub verdict : List ℕ → List ℕ
 verdict sheet = said (sheetText sheet)

@@ -53,12 +53,12 @@ fn put_lines(
     needs: Needs,
     list: &[u16; model::LIST_ENTRIES],
 ) -> usize
-    requires { ⌜ (length (now verdict) ≡ VERDICT-BYTES) × (model .machine .boxes ≤ BOXES) × Small judgement × Few needs ⌝ }
-    ensures { λ r. ⌜ Written (now (verdict .entry)) (now (verdict .exit)) r (viewsLine (model .ids) (model .machine .owners) judgement ++ (needLines (model .ids) (now (list .entry)) (pairs (needs .outcome)) ++ (depthLines (model .ids) (needs .depths) (model .machine .boxes) ++ reachLine (reached (needs .outcome))))) × (r ≤ VERDICT-BYTES) ⌝ }
+    requires { ⌜ (length (now verdict) ≡ VERDICT-BYTES) × (model .machine .sizes .boxes ≤ BOXES) × Small judgement × Few needs ⌝ }
+    ensures { λ r. ⌜ Written (now (verdict .entry)) (now (verdict .exit)) r (viewsLine (model .ids) (model .machine .owners) judgement ++ (needLines (model .ids) (now (list .entry)) (pairs (needs .outcome)) ++ (depthLines (model .ids) (needs .depths) (model .machine .sizes .boxes) ++ reachLine (reached (needs .outcome))))) × (r ≤ VERDICT-BYTES) ⌝ }
 {
     let ids = model.ids;
     let owners = model.machine.owners;
-    let boxes = model.machine.boxes;
+    let boxes = model.machine.sizes.boxes;
     let outcome = needs.outcome;
     let depths = needs.depths;
     let a = lines::put_views(verdict, &ids, &owners, judgement);
@@ -75,7 +75,7 @@ fn put_verdict(
     outputs: &[u16],
     views: &[u16],
 ) -> usize
-    requires { ⌜ (length (now verdict) ≡ VERDICT-BYTES) × (model .machine .boxes ≤ BOXES) ⌝ }
+    requires { ⌜ (length (now verdict) ≡ VERDICT-BYTES) × (model .machine .sizes .boxes ≤ BOXES) ⌝ }
     ensures { λ r. ⌜ Written (now (verdict .entry)) (now (verdict .exit)) r (verdictOf model (now (next .entry)) (now (outputs .entry)) (now (views .entry))) × (r ≤ VERDICT-BYTES) ⌝ }
 {
     let judgement = views::judge(model, next, outputs, views);
@@ -94,12 +94,7 @@ fn put_refusal(verdict: &mut [u8], answer: Answer) -> usize
         Answer::Refused { number, line } => {
             lines::put_pair(verdict, b"refused\t", number as u32, line as u32)
         }
-        Answer::Model {
-            states: _,
-            actions: _,
-            boxes: _,
-            start: _,
-        } => 0,
+        Answer::Model(_) => 0,
     }
 }
 
@@ -120,19 +115,9 @@ pub extern "C" fn zarpalume_verdict(sheet: &[u8], verdict: &mut [u8]) -> usize
     let ids = read.ids;
     let owners = read.owners;
     let arrows = read.arrows;
-    let Answer::Model {
-        states,
-        actions,
-        boxes,
-        start,
-    } = answer
-    else {
+    let Answer::Model(sizes) = answer else {
         return put_refusal(verdict, answer);
     };
-    let model = Model::new(
-        Machine::new(states, actions, boxes, start, owners),
-        ids,
-        arrows,
-    );
+    let model = Model::new(Machine::new(sizes, owners), ids, arrows);
     put_verdict(verdict, model, &next, &outputs, &views)
 }

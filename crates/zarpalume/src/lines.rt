@@ -4,9 +4,8 @@ ghost use mathlib.Core.List.{[], _∷_, _++_};
 ghost use Prim.Native.Nat.{ℕ, _+_, _*_, _<_, _≤_};
 ghost use lib.ListN.{length, getD};
 ghost use Rattle.text.specs.Number.{decimal};
-ghost use Rattle.model.specs.Limits.{BOXES};
+ghost use Rattle.model.specs.Limits.{BOXES, PAIRS};
 ghost use Rattle.text.specs.Written.{Written};
-ghost use Rattle.needs.specs.Listed.{PAIRS};
 ghost use Rattle.zarpalume.specs.Lines.{tabbed, ended, brokenRespect, dashed, viewsLine, Small, needLines, depthLines, reachWords};
 
 // Bytes that have room.

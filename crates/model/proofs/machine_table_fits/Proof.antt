@@ -7,7 +7,7 @@ use Rattle.model.proofs.machine_table_fits.Statement.{statement}
 use Rattle.model.proofs.machine_table_fits.Tie as tie
 
 next-fits-requires : tie.Need-next-fits-requires
-next-fits-requires c κs = let g = machine-good _ .0 (told _ _ (c .before .machine-fits .ensures) (c .if1 .taken)) in (g .states-most, g .actions-most)
+next-fits-requires c κs = let g = machine-good _ .0 (told _ _ (c .before .machine-fits .ensures) (c .if1 .taken)) in (g .sizes .states-most, g .sizes .actions-most, g .sizes .states-some)
 
 pub machine-table-fits-spec : {M : Type 1} → statement M
 unfolding machineTableFits

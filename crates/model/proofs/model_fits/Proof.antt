@@ -7,7 +7,7 @@ use Rattle.model.proofs.model_fits.Statement.{statement}
 use Rattle.model.proofs.model_fits.Tie as tie
 
 drawing-fits-requires : tie.Need-drawing-fits-requires
-drawing-fits-requires c κs = machine-good _ .0 (told _ _ (c .before .machine-fits .ensures) (c .if1 .taken)) .boxes-most
+drawing-fits-requires c κs = machine-good _ .0 (told _ _ (c .before .machine-fits .ensures) (c .if1 .taken)) .sizes .boxes-most
 
 pub model-fits-spec : {M : Type 1} → statement M
 unfolding modelFits

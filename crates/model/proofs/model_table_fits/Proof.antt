@@ -7,7 +7,7 @@ use Rattle.model.proofs.model_table_fits.Statement.{statement}
 use Rattle.model.proofs.model_table_fits.Tie as tie
 
 drawing-fits-requires : tie.Need-drawing-fits-requires
-drawing-fits-requires c κs = table-good _ _ .0 (told _ _ (c .before .machine-table-fits .ensures) (c .if1 .taken)) .machine .boxes-most
+drawing-fits-requires c κs = table-good _ _ .0 (told _ _ (c .before .machine-table-fits .ensures) (c .if1 .taken)) .machine .sizes .boxes-most
 
 pub model-table-fits-spec : {M : Type 1} → statement M
 unfolding modelTableFits

@@ -1,42 +1,33 @@
 -- `model::next_fits` meets its contract. Assumes nothing.
 -- Here `c3` is the place three before `c`.
-use Rattle.laws.proofs.Cells.{row}
-use Prim.Native.Nat.{_≤_, _-_, _+_, _*_}
+use mathlib.Core.Path.{sym}
+use Prim.Native.Nat.{_<_}
+use native.Mathlib.Nat.{mul-le-mul}
 use native.Mathlib.Omega.{arith}
-use lib.Dec.{ltb}
-use lib.ListN.{getD}
-use Rattle.laws.specs.Range.{every, Held}
-use Rattle.model.specs.Limits.{STATES, ACTIONS}
-use Rattle.laws.proofs.Loops.{each}
+use borrow.Author.Needs.{needs}
 use Rattle.model.specs.Refused.{nextFits}
+use Rattle.model.proofs.HighestEntry.{rows-test}
 use Rattle.model.proofs.next_fits.Statement.{statement}
 use Rattle.model.proofs.next_fits.Tie as tie
 
-abbrev Inv-states : tie.InvT-states
-Inv-states next states actions s₀ s = (s ≤ states) × Held s (λ s. every actions (λ a. ltb (getD next (s * actions + a) 0) states))
-
-abbrev μ-states : tie.MeasureT-states
-μ-states next states actions s₀ s = states - s
-
-mul-row-fits : tie.Need-mul-row-fits Inv-states μ-states
-mul-row-fits c =
-    let c3 = c .before .before .before in
-    let h = row STATES ACTIONS (c .states-test .taken) (c3 .pre .0) (c3 .pre .1) in
+mul-n : tie.Need-mul-n
+mul-n c =
+    let p = c .before .before .pre in
+    let h = mul-le-mul (p .0) (p .1) in
     omega arith
 
-row-fits-requires : tie.Need-row-fits-requires Inv-states μ-states
-row-fits-requires c κs =
-    let c3 = c .before .before .before in
-    (row STATES ACTIONS (c .states-test .taken) (c3 .pre .0) (c3 .pre .1), c3 .pre .1)
+returns : tie.Need-returns
+unfolding nextFits
+returns c =
+    let c6 = c .before .before .before .before .before .before in
+    rows-test _ (c .before .before .highest .ensures) (c6 .pre .2) (c .before .wide16 .ensures)
 
 pub next-fits-spec : {M : Type 1} → statement M
-unfolding nextFits
 next-fits-spec =
     tie.close
     (tie.spec
-    Inv-states
-    μ-states
-    (λ c. search each)
-    mul-row-fits
-    row-fits-requires
-    (λ c. search each) (λ c. search each) (λ c. search each) (λ c. search each) (λ c. search each))
+    mul-n
+    (λ c κs. search needs) (λ c κs. search needs)
+    returns
+    (λ c κs. search needs)
+    (λ c. search needs))

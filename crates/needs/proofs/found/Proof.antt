@@ -19,7 +19,7 @@ sort-requires c κs =
     (q .0, subst (λ f. Known (machineOf (g .machine) (g .next .now) (g .outputs .now)) (flagAt f)) (sym (c .before .flags-of .ensures)) (q .1 .0))
 
 write-list-requires : tie.Need-write-list-requires
-write-list-requires c κs = let q = c .before .before .before .before .before .before .before .before .before .before .pre in (q .0 .good .machine .boxes-most, q .1 .1)
+write-list-requires c κs = let q = c .before .before .before .before .before .before .before .before .before .before .pre in (q .0 .good .machine .sizes .boxes-most, q .1 .1)
 
 count-requires : tie.Need-count-requires
 count-requires c κs = tt

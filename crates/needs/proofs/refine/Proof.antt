@@ -13,18 +13,18 @@ abbrev Inv-rounds : tie.InvT-rounds
 Inv-rounds machine next outputs inside before u classes₀ marks₀ rounds₀ classes marks rounds = Refining machine next outputs inside before u classes marks rounds
 
 abbrev μ-rounds : tie.MeasureT-rounds
-μ-rounds machine next outputs inside before u classes₀ marks₀ rounds₀ classes marks rounds = machine .states - rounds
+μ-rounds machine next outputs inside before u classes₀ marks₀ rounds₀ classes marks rounds = machine .sizes .states - rounds
 
 own-actions-requires : tie.Need-own-actions-requires Inv-rounds μ-rounds
-own-actions-requires c κs = c .before .before .before .before .pre .0 .good .machine .actions-most
+own-actions-requires c κs = c .before .before .before .before .pre .0 .good .machine .sizes .actions-most
 
 first-round-requires : tie.Need-first-round-requires Inv-rounds μ-rounds
 first-round-requires c κs =
     let f = c .before .before .before .before .before .before .before .pre .0 in
-    (listing-of (c .before .before .own-actions .ensures) (f .outputs-long) (f .good .machine .actions-most), f .good .machine .states-most)
+    (listing-of (c .before .before .own-actions .ensures) (f .outputs-long) (f .good .machine .sizes .actions-most), f .good .machine .sizes .states-most)
 
 one-class-requires : tie.Need-one-class-requires Inv-rounds μ-rounds
-one-class-requires c κs = c .before .before .before .before .before .before .before .before .before .pre .0 .good .machine .states-most
+one-class-requires c κs = c .before .before .before .before .before .before .before .before .before .pre .0 .good .machine .sizes .states-most
 
 returns : tie.Need-returns Inv-rounds μ-rounds
 returns c =
@@ -52,7 +52,7 @@ again-requires c κs =
     (steps (i .fits), (i .befores, ((i .below, led-below _ _ (r .0)), r .1 .1)))
 
 add-rounds : tie.Need-add-rounds Inv-rounds μ-rounds
-add-rounds c = let i = c .before .before .before .before .before .before .before .before .before .before .rounds .inv in omega (arith, refining-most i, i .fits .good .machine .states-most)
+add-rounds c = let i = c .before .before .before .before .before .before .before .before .before .before .rounds .inv in omega (arith, refining-most i, i .fits .good .machine .sizes .states-most)
 
 rounds-less : tie.Need-rounds-less Inv-rounds μ-rounds
 rounds-less c = let i = c .before .before .before .before .before .before .before .before .before .before .rounds .inv in omega (arith, refining-most i)

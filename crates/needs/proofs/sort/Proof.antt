@@ -11,7 +11,7 @@ use Rattle.needs.proofs.sort.Tie as tie
 
 abbrev Inv-boxes : tie.InvT-boxes
 Inv-boxes machine next outputs inside owners table₀ depths₀ before u₀ u-end table depths u =
-    (owners ≡ machine .owners) × (u-end ≡ machine .boxes) × (u ≤ u-end) × Befores (machine .states) (machine .actions) next before
+    (owners ≡ machine .owners) × (u-end ≡ machine .sizes .boxes) × (u ≤ u-end) × Befores (machine .sizes .states) (machine .sizes .actions) next before
     × Sorting machine next outputs inside table depths u
 
 abbrev μ-boxes : tie.MeasureT-boxes

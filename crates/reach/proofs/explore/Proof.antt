@@ -19,7 +19,7 @@ abbrev μ-work : tie.MeasureT-work
 array-write-flags : tie.Need-array-write-flags Inv-work μ-work
 array-write-flags c =
     let g = c .before .pre .machine in
-    omega (arith, g .start-in, g .states-most)
+    omega (arith, g .sizes .start-in, g .sizes .states-most)
 
 work-holds : tie.Need-work-holds Inv-work μ-work
 work-holds c = (c .before .pre, explored-start (c .before .pre))

@@ -11,7 +11,7 @@ use Rattle.reach.proofs.look.Tie as tie
 
 abbrev Inv-actions : tie.InvT-actions
 Inv-actions machine next flags₀ work₀ done entered s n₀ a₀ a-end flags work n a =
-    (a-end ≡ machine .actions) × (a ≤ a-end) × GoodTable machine next × Looking machine next flags work done n s a
+    (a-end ≡ machine .sizes .actions) × (a ≤ a-end) × GoodTable machine next × Looking machine next flags work done n s a
 
 abbrev μ-actions : tie.MeasureT-actions
 μ-actions machine next flags₀ work₀ done entered s n₀ a₀ a-end flags work n a = a-end - a
@@ -35,7 +35,7 @@ add-at c = let i = c .before .before .actions .inv in omega (arith, next-cell (i
 element-copy-out-if1 : tie.Need-element-copy-out-if1 Inv-actions μ-actions
 element-copy-out-if1 c =
     let i = c .before .before .before .actions .inv in
-    omega (arith, next-small (i .2) (i .3) (omega arith) (c .at .ensures), i .2 .machine .states-most)
+    omega (arith, next-small (i .2) (i .3) (omega arith) (c .at .ensures), i .2 .machine .sizes .states-most)
 
 actions-again : tie.Need-actions-again Inv-actions μ-actions
 actions-again c =
@@ -46,22 +46,22 @@ actions-again c =
 element-write-flags : tie.Need-element-write-flags Inv-actions μ-actions
 element-write-flags c =
     let i = c .before .before .before .before .before .actions .inv in
-    omega (arith, next-small (i .2) (i .3) (omega arith) (c .before .before .at .ensures), i .2 .machine .states-most)
+    omega (arith, next-small (i .2) (i .3) (omega arith) (c .before .before .at .ensures), i .2 .machine .sizes .states-most)
 
 mul-work : tie.Need-mul-work Inv-actions μ-actions
 mul-work c =
     let i = c .before .before .before .before .before .actions .inv in
-    omega (arith, room (i .2) (i .3) (omega arith) (c .before .before .at .ensures) (c .if1 .left), i .2 .machine .states-most)
+    omega (arith, room (i .2) (i .3) (omega arith) (c .before .before .at .ensures) (c .if1 .left), i .2 .machine .sizes .states-most)
 
 element-write-work : tie.Need-element-write-work Inv-actions μ-actions
 element-write-work c =
     let i = c .before .before .before .before .before .actions .inv in
-    omega (arith, room (i .2) (i .3) (omega arith) (c .before .before .at .ensures) (c .if1 .left), i .2 .machine .states-most)
+    omega (arith, room (i .2) (i .3) (omega arith) (c .before .before .at .ensures) (c .if1 .left), i .2 .machine .sizes .states-most)
 
 add-n : tie.Need-add-n Inv-actions μ-actions
 add-n c =
     let i = c .before .before .before .before .before .actions .inv in
-    omega (arith, room (i .2) (i .3) (omega arith) (c .before .before .at .ensures) (c .if1 .left), i .2 .machine .states-most)
+    omega (arith, room (i .2) (i .3) (omega arith) (c .before .before .at .ensures) (c .if1 .left), i .2 .machine .sizes .states-most)
 
 actions-again-2 : tie.Need-actions-again-2 Inv-actions μ-actions
 actions-again-2 c =

@@ -17,30 +17,30 @@ use Rattle.views.proofs.first_output.Statement.{statement}
 use Rattle.views.proofs.first_output.Tie as tie
 
 abbrev Inv-seconds : tie.InvT-seconds
-Inv-seconds outputs views low states actions owners found₀ a o s t₀ found t = (t ≤ states) × (s < t) × (found ≡ Accepted) × Passed t (outputAt states actions owners outputs views a s)
+Inv-seconds outputs views low alones states actions owners found₀ a o s t₀ found t = (t ≤ states) × (s < t) × (found ≡ Accepted) × Passed t (outputAt states actions owners outputs views a s)
 
 abbrev μ-seconds : tie.MeasureT-seconds
-μ-seconds outputs views low states actions owners found₀ a o s t₀ found t = states - t
+μ-seconds outputs views low alones states actions owners found₀ a o s t₀ found t = states - t
 
 abbrev Inv-firsts : tie.InvT-firsts
-Inv-firsts outputs views low states actions owners found₀ a o s₀ found s = (s ≤ states) × (found ≡ Accepted) × Passed s (outputFrom states actions owners outputs views a)
+Inv-firsts outputs views low alones states actions owners found₀ a o s₀ found s = (s ≤ states) × (found ≡ Accepted) × Passed s (outputFrom states actions owners outputs views a)
 
 abbrev μ-firsts : tie.MeasureT-firsts
-μ-firsts outputs views low states actions owners found₀ a o s₀ found s = states - s
+μ-firsts outputs views low alones states actions owners found₀ a o s₀ found s = states - s
 
 abbrev Inv-actions : tie.InvT-actions
-Inv-actions outputs views low states actions owners found₀ a₀ found a = (a ≤ actions) × (found ≡ Accepted) × Passed a (outputOf states actions owners outputs views)
+Inv-actions outputs views low alones states actions owners found₀ a₀ found a = (a ≤ actions) × (found ≡ Accepted) × Passed a (outputOf states actions owners outputs views)
 
 abbrev μ-actions : tie.MeasureT-actions
-μ-actions outputs views low states actions owners found₀ a₀ found a = actions - a
+μ-actions outputs views low alones states actions owners found₀ a₀ found a = actions - a
 
-quiet-requires : tie.Need-quiet-requires Inv-seconds μ-seconds Inv-firsts μ-firsts Inv-actions μ-actions
-quiet-requires c κs =
+silent-requires : tie.Need-silent-requires Inv-seconds μ-seconds Inv-firsts μ-firsts Inv-actions μ-actions
+silent-requires c κs =
     let c2 = c .before .before in
     let c7 = c2 .before .before .before .before .before in
     let g = c7 .pre .1 .0 in
     let l = c2 .actions-test .taken in
-    (c7 .pre .0, (lows-low (c7 .pre .1 .1) (owner-in g l (c .owner .ensures)), (g .states-most, g .actions-most, owner-small g l (c .owner .ensures), l)))
+    (c7 .pre .0, (lows-low (c7 .pre .1 .1 .0) (owner-in g l (c .owner .ensures)), (c7 .pre .1 .1 .1, (g .sizes .states-most, g .sizes .actions-most, owner-small g l (c .owner .ensures), l))))
 
 actions-again : tie.Need-actions-again Inv-seconds μ-seconds Inv-firsts μ-firsts Inv-actions μ-actions
 actions-again c =
@@ -50,8 +50,8 @@ actions-again c =
     let c9 = c5 .before .before .before .before in (
       omega arith,
       c5 .actions .inv .1,
-      passed-more _ _ (c5 .actions .inv .2) (quiet-none _ (c9 .pre .1 .0) (c9 .pre .1 .1) (c4 .actions-test .taken)
-          (c2 .owner .ensures) (told _ _ (c .before .quiet .ensures) (c .if1 .taken))),
+      passed-more _ _ (c5 .actions .inv .2) (quiet-none _ (c9 .pre .1 .0) (c9 .pre .1 .1 .0) (c4 .actions-test .taken)
+          (c2 .owner .ensures) (told _ _ (c .before .silent .ensures) (c .if1 .taken))),
     )
 
 leaks-requires : tie.Need-leaks-requires Inv-seconds μ-seconds Inv-firsts μ-firsts Inv-actions μ-actions
@@ -61,8 +61,8 @@ leaks-requires c κs =
     let c8 = c6 .before .before in
     let c13 = c8 .before .before .before .before .before in
     let g = c13 .pre .1 .0 in (
-      g .states-most,
-      g .actions-most,
+      g .sizes .states-most,
+      g .sizes .actions-most,
       owner-small g (c8 .actions-test .taken)
           (c6 .owner .ensures),
       c8 .actions-test .taken,
@@ -117,7 +117,7 @@ first-output-spec =
     (λ c. search sweep)
     (λ c. search needs)
     (λ c κs. search needs)
-    quiet-requires
+    silent-requires
     (λ c. omega arith) (λ c. omega arith)
     actions-again
     (λ c. search sweep)

@@ -51,7 +51,7 @@ mul-arrow c =
     let c12 = c3 .before .before .before .before .before .before .before .before .before in
     let g = c12 .pre .1 .0 .machine in
     let h = owner-small g (c3 .actions-test .taken) (c .before .owner .ensures) in
-    let l = g .boxes-most in
+    let l = g .sizes .boxes-most in
     omega arith
 
 add-arrow : tie.Need-add-arrow Inv-states μ-states Inv-actions μ-actions Inv-boxes μ-boxes
@@ -60,7 +60,7 @@ add-arrow c =
     let c12 = c3 .before .before .before .before .before .before .before .before .before in
     let g = c12 .pre .1 .0 .machine in
     let h = owner-small g (c3 .actions-test .taken) (c .before .owner .ensures) in
-    let l = g .boxes-most in
+    let l = g .sizes .boxes-most in
     omega arith
 
 actions-again : tie.Need-actions-again Inv-states μ-states Inv-actions μ-actions Inv-boxes μ-boxes
@@ -82,7 +82,7 @@ note-kept-requires c κs =
     let c15 = c8 .before .before .before .before .before .before .before in
     let g = c15 .pre .1 .0 in (
       c7 .actions .inv .3,
-      (nexts (c15 .pre .0) g, (lt-of-lt-of-le (c8 .boxes-test .taken) (g .machine .boxes-most), c6 .actions-test .taken)),
+      (nexts (c15 .pre .0) g, (lt-of-lt-of-le (c8 .boxes-test .taken) (g .machine .sizes .boxes-most), c6 .actions-test .taken)),
     )
 
 actions-again-2 : tie.Need-actions-again-2 Inv-states μ-states Inv-actions μ-actions Inv-boxes μ-boxes
@@ -112,9 +112,9 @@ moves-requires c κs =
     let c19 = c12 .before .before .before .before .before .before .before in
     let g = c19 .pre .1 .0 in (
       (
-        g .machine .states-most,
-        g .machine .actions-most,
-        lt-of-lt-of-le (c12 .boxes-test .taken) (g .machine .boxes-most),
+        g .machine .sizes .states-most,
+        g .machine .sizes .actions-most,
+        lt-of-lt-of-le (c12 .boxes-test .taken) (g .machine .sizes .boxes-most),
         c10 .actions-test .taken,
         c .states-test .taken,
       ),
@@ -124,7 +124,7 @@ moves-requires c κs =
 add-s : tie.Need-add-s Inv-states μ-states Inv-actions μ-actions Inv-boxes μ-boxes
 add-s c =
     let c21 = c .before .before .before .before .before .before .before .before .before .before .before .before .before .before .before .before .before .before .before .before .before in
-    omega (arith, c21 .pre .1 .0 .machine .states-most)
+    omega (arith, c21 .pre .1 .0 .machine .sizes .states-most)
 
 states-again : tie.Need-states-again Inv-states μ-states Inv-actions μ-actions Inv-boxes μ-boxes
 states-again c =

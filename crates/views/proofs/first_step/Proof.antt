@@ -49,7 +49,7 @@ boxes-holds c = (omega arith, refl, passed-none _, length-replicate {A = ℕ} SP
 is-alone-requires : tie.Need-is-alone-requires Inv-seconds μ-seconds Inv-firsts μ-firsts Inv-actions μ-actions Inv-boxes μ-boxes
 is-alone-requires c κs =
     let c5 = c .before .before .before .before .before in
-    lt-of-lt-of-le (c .boxes-test .taken) (c5 .pre .1 .0 .machine .boxes-most)
+    lt-of-lt-of-le (c .boxes-test .taken) (c5 .pre .1 .0 .machine .sizes .boxes-most)
 
 boxes-again : tie.Need-boxes-again Inv-seconds μ-seconds Inv-firsts μ-firsts Inv-actions μ-actions Inv-boxes μ-boxes
 boxes-again c =
@@ -87,7 +87,7 @@ settled-requires c κs =
               (
                 c12 .pre .1 .1 .1 .1,
                 (
-                  lt-of-lt-of-le l (g .machine .boxes-most),
+                  lt-of-lt-of-le l (g .machine .sizes .boxes-most),
                   owner-small (g .machine)
                       (c3 .actions-test .taken) (c .before .owner .ensures),
                   c3 .actions-test .taken,
@@ -122,9 +122,9 @@ tears-requires c κs =
     let c18 = c13 .before .before .before .before .before in
     let g = c18 .pre .1 .0 in (
       (
-        g .machine .states-most,
-        g .machine .actions-most,
-        lt-of-lt-of-le (c13 .boxes-test .taken) (g .machine .boxes-most),
+        g .machine .sizes .states-most,
+        g .machine .sizes .actions-most,
+        lt-of-lt-of-le (c13 .boxes-test .taken) (g .machine .sizes .boxes-most),
         owner-small (g .machine)
             (c9 .actions-test .taken) (c7 .owner .ensures),
         c9 .actions-test .taken,
@@ -141,7 +141,7 @@ tears-requires c κs =
 add-t-2 : tie.Need-add-t-2 Inv-seconds μ-seconds Inv-firsts μ-firsts Inv-actions μ-actions Inv-boxes μ-boxes
 add-t-2 c =
     let c20 = c .before .before .before .before .before .before .before .before .before .before .before .before .before .before .before .before .before .before .before .before in
-    omega (arith, c20 .pre .1 .0 .machine .states-most)
+    omega (arith, c20 .pre .1 .0 .machine .sizes .states-most)
 
 seconds-again : tie.Need-seconds-again Inv-seconds μ-seconds Inv-firsts μ-firsts Inv-actions μ-actions Inv-boxes μ-boxes
 seconds-again c =

@@ -21,7 +21,7 @@ returns c =
     let u = lent v (omega (arith, i, j, room, vl)) (d .put-depths .ensures .0) in
     let ul = written-length u (omega (arith, i, j, k, room)) in
     let a = c .before .before .before .before .before .before .before .before .before .before .before .before .before .before .before .before .before .before .before .before .before .before .before .before .before .before .before .args in (
-      same-as (joined (a .model .ids) (a .list .now) (a .needs .depths) (viewsLine (a .model .ids) (a .model .machine .owners) (a .judgement)) (a .model .machine .boxes) _ _ (a .needs) (n .before .pairs .ensures) (c .before .before .before .reached .ensures))
+      same-as (joined (a .model .ids) (a .list .now) (a .needs .depths) (viewsLine (a .model .ids) (a .model .machine .owners) (a .judgement)) (a .model .machine .sizes .boxes) _ _ (a .needs) (n .before .pairs .ensures) (c .before .before .before .reached .ensures))
           (lent u (omega (arith, i, j, k, room, ul)) (c .before .before .put-reach .ensures .0)),
       omega (arith, i, j, k, c .before .before .put-reach .ensures .1),
     )

@@ -2,9 +2,10 @@
 -- Assumes nothing.
 use borrow.Author.Needs.{needs}
 use native.Mathlib.Omega.{arith}
-use Prim.Native.Nat.{_≤_, _-_}
+use Prim.Native.Nat.{_≤_, _-_, _*_}
 use lib.ListN.{length-replicate}
 use mathlib.Core.Bool.{Bool, false}
+use Rattle.model.specs.Limits.{STATES}
 use Rattle.needs.proofs.Looking.{BeforesTo, befores-none, befores-more, befores-row, befores-all}
 use Rattle.needs.proofs.changes.befores.Statement.{statement}
 use Rattle.needs.proofs.changes.befores.Tie as tie
@@ -22,7 +23,7 @@ abbrev μ-states : tie.MeasureT-states
 μ-states next states actions before₀ s₀ before s = states - s
 
 states-holds : tie.Need-states-holds Inv-actions μ-actions Inv-states μ-states
-states-holds c = (omega arith, befores-none (length-replicate {A = Bool} 16384 false))
+states-holds c = (omega arith, befores-none (length-replicate {A = Bool} (STATES * STATES) false))
 
 actions-holds : tie.Need-actions-holds Inv-actions μ-actions Inv-states μ-states
 actions-holds c = (omega arith, c .before .states .inv .1)

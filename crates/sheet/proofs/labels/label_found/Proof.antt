@@ -11,17 +11,17 @@ unfolding zeros
 read-text-requires c κs = (refl, refl, refl)
 
 label-place-requires : tie.Need-label-place-requires
-label-place-requires c κs = let b = found-box (c .before .before .before .before .before .before .before .before .before .before .before .before .args .text .now) (c .before .before .before .before .before .before .before .read-text .result .answer) _ (c .before .before .before .before .before .before .before .read-text .ensures) (c .before .before .before .before .before .before .before .before .before .before .before .before .args .position) (c .before .before .answer2 .given .1) (c .if1 .taken) in
+label-place-requires c κs = let b = found-box (c .before .before .before .before .before .before .before .before .before .before .before .before .before .args .text .now) (c .before .before .before .before .before .before .before .before .read-text .result .answer) _ (c .before .before .before .before .before .before .before .before .read-text .ensures) (c .before .before .before .before .before .before .before .before .before .before .before .before .before .args .position) (c .before .before .before .answer2 .given .1) (c .if1 .taken) in
     (b .closed, b .small, b .there, b .is .three)
 
 returns : tie.Need-returns
-returns c = found-place (c .before .before .before .before .before .before .before .before .before .before .before .before .before .args .text .now) (c .before .before .before .before .before .before .before .before .read-text .result .answer) _ (c .before .before .before .before .before .before .before .before .read-text .ensures) (c .before .before .before .before .before .before .before .before .before .before .before .before .before .args .position) (c .before .before .before .answer2 .given .1) (c .before .if1 .taken) (c .label-place .ensures)
+returns c = found-place (c .before .before .before .before .before .before .before .before .before .before .before .before .before .before .args .text .now) (c .before .before .before .before .before .before .before .before .before .read-text .result .answer) _ (c .before .before .before .before .before .before .before .before .before .read-text .ensures) (c .before .before .before .before .before .before .before .before .before .before .before .before .before .before .args .position) (c .before .before .before .before .answer2 .given .1) (c .before .if1 .taken) (c .label-place .ensures)
 
 returns-2 : tie.Need-returns-2
 returns-2 c = found-refused (c .before .before .before .before .before .before .before .before .before .before .before .args .text .now) (c .before .before .before .before .before .before .read-text .result .answer) _ (c .before .before .before .before .before .before .read-text .ensures) (c .before .before .before .before .before .before .before .before .before .before .before .args .position) (c .before .answer .given .1)
 
 returns-3 : tie.Need-returns-3
-returns-3 c = found-none (c .before .before .before .before .before .before .before .before .before .before .before .before .args .text .now) (c .before .before .before .before .before .before .before .read-text .result .answer) _ (c .before .before .before .before .before .before .before .read-text .ensures) (c .before .before .before .before .before .before .before .before .before .before .before .before .args .position) (c .before .before .answer2 .given .1) (c .if1 .left)
+returns-3 c = found-none (c .before .before .before .before .before .before .before .before .before .before .before .before .before .args .text .now) (c .before .before .before .before .before .before .before .before .read-text .result .answer) _ (c .before .before .before .before .before .before .before .before .read-text .ensures) (c .before .before .before .before .before .before .before .before .before .before .before .before .before .args .position) (c .before .before .before .answer2 .given .1) (c .if1 .left)
 
 pub label-found-spec : {M : Type 1} → statement M
 label-found-spec =

@@ -24,7 +24,7 @@ kept k t _ _ next output = steps (set (t .next) k next) (set (t .outputs) k outp
 
 record At (t : List ℕ) (from first states actions : ℕ) (ids next₀ outputs₀ : List ℕ) (total : ℕ) (next outputs : List ℕ) (at n k : ℕ) : Type 0 where
   some : 0 < actions
-  few-states : states ≤ STATES
+  states-most : states ≤ STATES
   small : total ≤ NEXT-ENTRIES
   few-ids : length ids ≤ BOXES
   next-room : length next₀ ≡ NEXT-ENTRIES
@@ -45,7 +45,7 @@ mul-total c = omega (arith, mul-le-mul (c .before .before .before .before .pre .
 loop-holds : tie.Need-loop-holds Inv-loop μ-loop
 loop-holds c = record {
   some = c .before .before .before .before .pre .0 .2;
-  few-states = c .before .before .before .before .pre .0 .3;
+  states-most = c .before .before .before .before .pre .0 .3;
   small = mul-le-mul (c .before .before .before .before .pre .0 .3) (c .before .before .before .before .pre .0 .4);
   few-ids = c .before .before .before .before .pre .1 .0;
   next-room = c .before .before .before .before .pre .1 .1;
@@ -73,7 +73,7 @@ add-line c = omega (arith, line-fits (c .before .before .before .before .before 
 loop-again : tie.Need-loop-again Inv-loop μ-loop
 loop-again c = record {
   some = c .before .before .before .before .before .loop .inv .some;
-  few-states = c .before .before .before .before .before .loop .inv .few-states;
+  states-most = c .before .before .before .before .before .loop .inv .states-most;
   small = c .before .before .before .before .before .loop .inv .small;
   few-ids = c .before .before .before .before .before .loop .inv .few-ids;
   next-room = c .before .before .before .before .before .loop .inv .next-room;
