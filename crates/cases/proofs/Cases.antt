@@ -1,4 +1,4 @@
--- The twelve cases hold: one computed test over the table, and the law for each row.
+-- The cases hold: one computed test over the table, and the law for each row.
 -- Assumes nothing.
 use mathlib.Core.Path.{_≡_, refl}
 use mathlib.Core.Bool.{Bool, true, false}
@@ -85,7 +85,7 @@ chain = record { ways = some [] ∷ some (0 ∷ []) ∷ some (0 ∷ 1 ∷ []) �
 abbrev pub certificates : List Certificate
 certificates =
     register ∷ register ∷ register ∷ direct ∷ register ∷ register ∷ register ∷ register ∷ register
-    ∷ single (0 ∷ []) ∷ single (0 ∷ 0 ∷ []) ∷ chain ∷ []
+    ∷ single (0 ∷ []) ∷ single (0 ∷ 0 ∷ []) ∷ chain ∷ register ∷ []
 
 unfoldable allHold : List Case → List Certificate → Bool
 allHold [] ks = true

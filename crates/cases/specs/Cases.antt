@@ -1,4 +1,4 @@
--- The cases P1 to P12, one table: a model with its tables, and what is claimed of it.
+-- The cases P1 to P12 and those that came with requests, one table: a model with its tables, and what is claimed of it.
 use mathlib.Core.List.{List, [], _∷_}
 use Prim.Native.Nat.{ℕ}
 use Rattle.model.specs.Limits.{ACTIONS, BOXES}
@@ -37,6 +37,9 @@ otherSums = 0 ∷ 1 ∷ 1 ∷ 2 ∷ 2 ∷ 3 ∷ 3 ∷ 3 ∷ 3 ∷ []
 
 abbrev fewerArrows : Model
 fewerArrows = modelFrom register.machine (register.model .ids) (draws (selves 4) ((0, 2) ∷ (1, 2) ∷ []))
+
+abbrev moreArrows : Model
+moreArrows = modelFrom register.machine (register.model .ids) (draws (selves 4) ((0, 3) ∷ (0, 2) ∷ (1, 2) ∷ (2, 3) ∷ []))
 
 abbrev otherViews : List ℕ
 otherViews = byBox (register.viewU ∷ register.viewV ∷ register.viewU ∷ register.viewX ∷ [])
@@ -102,5 +105,9 @@ p12 =
     case (two 4 []) (byState ((1 ∷ 1 ∷ 2 ∷ 3 ∷ []) ∷ (0 ∷ 2 ∷ 3 ∷ 3 ∷ []) ∷ []) 4) (byState ([] ∷ (0 ∷ 0 ∷ 0 ∷ 1 ∷ []) ∷ []) 4)
     [] (needed ((1, 2) ∷ []) ∷ depths (0 ∷ 2 ∷ []) ∷ reach 4 ∷ [])
 
+-- P1 with the arrow 10 to 40 more
+abbrev pub p1More : Case
+p1More = case moreArrows register.nextEntries register.outputEntries register.viewEntries (judged accepted ∷ [])
+
 abbrev pub cases : List Case
-cases = p1 ∷ p2 ∷ p3 ∷ p4 ∷ p5 ∷ p6 ∷ p7 ∷ p8 ∷ p9 ∷ p10 ∷ p11 ∷ p12 ∷ []
+cases = p1 ∷ p2 ∷ p3 ∷ p4 ∷ p5 ∷ p6 ∷ p7 ∷ p8 ∷ p9 ∷ p10 ∷ p11 ∷ p12 ∷ p1More ∷ []

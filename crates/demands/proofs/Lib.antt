@@ -18,3 +18,4 @@ pub mod ReadBack
 pub mod Sheets
 pub mod Meant
 pub mod Once
+pub mod AnotherArrow

@@ -4,5 +4,6 @@ pub mod Told
 pub mod Printed
 pub mod Meant
 pub mod Demands
+pub mod AnotherArrow
 pub mod Ours
 pub mod Answers

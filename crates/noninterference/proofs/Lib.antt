@@ -10,3 +10,4 @@ pub mod Ascending
 pub mod NeededList
 pub mod Paths
 pub mod Place
+pub mod Extends

@@ -9,4 +9,5 @@ pub mod Needed
 pub mod Depth
 pub mod Reached
 pub mod Rounds
+pub mod Extends
 pub mod Path
