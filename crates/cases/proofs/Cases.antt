@@ -16,8 +16,10 @@ use Rattle.noninterference.specs.Judged as searches
 use Rattle.noninterference.specs.Judged.{leaks, moves, alikeToo, tears, firstOutput, firstRespect, firstStep}
 use Rattle.noninterference.specs.Reached.{Reach}
 use Rattle.noninterference.specs.Rounds.{seesAlike, alike, stable, neededIn, arrowsFrom, arrowsUpto}
-use Rattle.model.specs.Refused.{sized, sizesFit, ownersFit, machineFits, nextFits, idsFit, arrowsFit, selvesFit, drawingFits, machineTableFits, modelFits, modelTableFits}
-use Rattle.register.specs.Tables.{column, byState, byBox, selves, draws}
+use Rattle.model.specs.Refused.{sized, sizesFit, ownersFit, machineFits, nextFits, idsFit, rowFits, arrowsFit, selvesFit, drawingFits, machineTableFits, modelFits, modelTableFits}
+use Rattle.register.specs.Tables.{column, byState, byBox, draws}
+use Rattle.laws.specs.Sets.{has, including}
+use Rattle.model.specs.Arrows.{selves}
 use Rattle.purge.specs.Purged.{namesActions, asked, keptOf}
 use Rattle.needs.specs.Listed.{flat}
 use Rattle.cases.specs.Cases.{Case, Claim, judged, needed, depths, reach, purged, cases}
@@ -99,7 +101,7 @@ all-meet (c ∷ cs) [] h = not-both h refl
 all-meet (c ∷ cs) (k ∷ ks) h = let b = both-true _ _ h in (meets c k (b .0), all-meet cs ks (b .1))
 
 computed : allHold cases certificates ≡ true
-unfolding allHold holds allRight right good judgedRight purgedRight reachRight depthsRight neededRight depthsListed reachCounted needs.namesActions leads idsRight sameList both either brings without choose when orElse firstOf range.every range.some range.count range.first range.tabulate any elem run purge keeps sources leaks moves alikeToo tears firstOutput firstRespect firstStep searches.judged seesAlike alike stable neededIn arrowsFrom arrowsUpto sized sizesFit ownersFit machineFits nextFits idsFit arrowsFit selvesFit drawingFits machineTableFits modelFits modelTableFits column byState byBox selves draws namesActions asked keptOf flat
+unfolding allHold holds allRight right good judgedRight purgedRight reachRight depthsRight neededRight depthsListed reachCounted needs.namesActions leads idsRight sameList both either brings without choose when orElse firstOf range.every range.some range.count range.first range.tabulate any elem run purge keeps sources leaks moves alikeToo tears firstOutput firstRespect firstStep searches.judged seesAlike alike stable neededIn arrowsFrom arrowsUpto sized sizesFit ownersFit machineFits nextFits idsFit rowFits arrowsFit selvesFit drawingFits machineTableFits modelFits modelTableFits column byState byBox selves draws has including namesActions asked keptOf flat
 computed = refl
 
 pub cases-hold : AllMeet cases

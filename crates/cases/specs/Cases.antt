@@ -4,7 +4,7 @@ use Prim.Native.Nat.{ℕ}
 use Rattle.model.specs.Limits.{ACTIONS, BOXES}
 use Rattle.model.specs.Made.{sizesFrom, machineFrom, modelFrom}
 use Rattle.model.specs.declared.Model.{Model}
-use Rattle.register.specs.Tables.{full, byState, byBox, selves, draws}
+use Rattle.register.specs.Tables.{full, byState, byBox, draws}
 use Rattle.register.specs.Register as register
 
 -- a verdict on views: accepted, or the broken condition with box id, action, s and t
@@ -36,19 +36,19 @@ abbrev otherSums : List ℕ
 otherSums = 0 ∷ 1 ∷ 1 ∷ 2 ∷ 2 ∷ 3 ∷ 3 ∷ 3 ∷ 3 ∷ []
 
 abbrev fewerArrows : Model
-fewerArrows = modelFrom register.machine (register.model .ids) (draws (selves 4) ((0, 2) ∷ (1, 2) ∷ []))
+fewerArrows = modelFrom register.machine (register.model .ids) (draws 4 ((0, 2) ∷ (1, 2) ∷ []))
 
 abbrev moreArrows : Model
-moreArrows = modelFrom register.machine (register.model .ids) (draws (selves 4) ((0, 3) ∷ (0, 2) ∷ (1, 2) ∷ (2, 3) ∷ []))
+moreArrows = modelFrom register.machine (register.model .ids) (draws 4 ((0, 3) ∷ (0, 2) ∷ (1, 2) ∷ (2, 3) ∷ []))
 
 abbrev otherViews : List ℕ
 otherViews = byBox (register.viewU ∷ register.viewV ∷ register.viewU ∷ register.viewX ∷ [])
 
 abbrev one : Model
-one = modelFrom (machineFrom (sizesFrom 1 1 1 0) (full ACTIONS [])) (full BOXES (1 ∷ [])) (selves 1)
+one = modelFrom (machineFrom (sizesFrom 1 1 1 0) (full ACTIONS [])) (full BOXES (1 ∷ [])) (draws 1 [])
 
 abbrev two : ℕ → List (ℕ × ℕ) → Model
-two states arrows = modelFrom (machineFrom (sizesFrom states 2 2 0) (full ACTIONS (0 ∷ 1 ∷ []))) (full BOXES (1 ∷ 2 ∷ [])) (draws (selves 2) arrows)
+two states arrows = modelFrom (machineFrom (sizesFrom states 2 2 0) (full ACTIONS (0 ∷ 1 ∷ []))) (full BOXES (1 ∷ 2 ∷ [])) (draws 2 arrows)
 
 -- ---- rows: the model, its next states, outputs and views; then what is claimed
 abbrev case : Model → List ℕ → List ℕ → List ℕ → List Claim → Case

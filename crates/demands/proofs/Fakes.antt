@@ -20,7 +20,7 @@ use Rattle.model.specs.Denoted.{machineOf}
 use Rattle.model.specs.declared.Machine.{Machine}
 use Rattle.model.specs.declared.Model.{Model}
 use Rattle.model.proofs.Good.{model-table-good}
-use Rattle.register.specs.Tables.{column, byState, selves}
+use Rattle.register.specs.Tables.{column, byState, draws}
 use Rattle.views.specs.declared.Judgement.{Judgement}
 use Rattle.views.specs.declared.Judgement.the-variants as judgements
 use Rattle.needs.specs.Demand.{Demand}
@@ -73,7 +73,7 @@ isModel (model z p) = true
 isModel (refusal n l) = false
 
 smallest-read : isModel (sheetText smallest) ≡ true
-unfolding isModel sheetText sheetLines lines onto sheetLine recordOf same fields numbers each number digit more parts phase boxLine before plain actLine drawing goLine flows flowLine viewLine zeros phases.selves
+unfolding isModel sheetText sheetLines lines onto sheetLine recordOf same fields numbers each number digit more parts phase boxLine before plain actLine drawing goLine flows flowLine viewLine zeros
 smallest-read = refl
 
 pub refuses-every-sheet : (calls : Calls) → Demand1 calls →

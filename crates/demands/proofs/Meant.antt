@@ -1,30 +1,34 @@
 -- What the reader gives for a printed sheet is what the sheet means: each part by name, and the labels.
 -- Assumes nothing.
-use mathlib.Core.Path.{_≡_, refl, sym, ap, ap₂, _∙_}
+use mathlib.Core.Path.{_≡_, refl, sym, ap, ap₂, subst, _∙_}
 use mathlib.Core.Bool.{Bool, true, false, _&&_, _||_}
 use mathlib.Core.List.{List, [], _∷_, _++_, map}
-use Prim.Native.Nat.{ℕ, zero, suc, _+_, _-_, _*_, _/_, _%_, _<_, _≤_}
+use Prim.Native.Nat.{ℕ, zero, suc, _+_, _-_, _*_, _/_, _%_, _^_, _<_, _≤_}
 use native.Mathlib.Omega.{arith}
 use native.Mathlib.Nat.{mul-le-mul, mul-add-div-right, div-eq-of-lt, mul-add-mod-self-right, mod-eq-of-lt, le-refl}
 use lib.Dec.{eqb, ltb}
-use lib.ListN.{length, getD, set, drop, replicate, length-replicate, length-map, length-set, getD-replicate, List·getD-append}
+use lib.ListN.{length, getD, set, drop, replicate, length-replicate, length-map, List·getD-append}
 use lib.Seq.{sets, sets-eq, getD-set-same, getD-set-other}
 use borrow.Author.Tests.{eq-eqb, ne-eqb, eqb-true, eqb-false, lt-ltb, le-ltb, ltb-true}
 use Rattle.laws.proofs.Tables.{tabulated, tabulate-at, drop-zeros}
 use Rattle.laws.proofs.Cells.{cell}
-use Rattle.laws.proofs.Tests.{by-test}
-use Rattle.laws.proofs.Range.{by-order}
+use Rattle.laws.proofs.Tests.{by-test, not-both}
 use Rattle.model.specs.declared.Sizes.{Sizes}
-use Rattle.model.specs.Limits.{STATES, ACTIONS, BOXES, ARROWS, NEXT-ENTRIES, OUTPUT-ENTRIES, VIEW-ENTRIES, SHEET-BYTES}
+use Rattle.laws.specs.Choice.{both, either}
+use Rattle.laws.specs.Sets.{has, including, pack}
+use Rattle.laws.proofs.Sets.{has-pack, pack-small, including-small, small-of, same-members}
+use Rattle.model.specs.Arrows as arrows
+use Rattle.model.specs.Arrows.{drawn, selves}
+use Rattle.model.proofs.Arrows.{drawn-length, drawn-at, no-arrows, selves-at}
+use Rattle.model.specs.Limits.{STATES, ACTIONS, BOXES, NEXT-ENTRIES, OUTPUT-ENTRIES, VIEW-ENTRIES, SHEET-BYTES}
 use Rattle.text.specs.Number.{decimal}
 use Rattle.sheet.specs.declared.Record.{Record}
 use Rattle.sheet.specs.Records.{position}
 use Rattle.sheet.specs.Numbers.{rest}
-use Rattle.sheet.specs.Phases.{steps, drawn, selves}
+use Rattle.sheet.specs.Phases.{steps}
 use Rattle.sheet.specs.Reading.{Parts, partsAs, drawnAs, model, zeros, sheetText, given, read}
 use Rattle.sheet.specs.Words as words
 use Rattle.sheet.specs.Label.{labelFound, label, labelled}
-use Rattle.sheet.proofs.Arrows.{selves-length}
 use Rattle.sheet.proofs.LabelPlace.{label-is}
 use Rattle.demands.specs.Printed as paper
 use Rattle.demands.specs.Printed.{Row, Box, Step, Drawn, Paper, Good, Each, Boxes, Known, Arrow, idsOf, boxRow, rowsFrom, print, PrintedFrom}
@@ -76,8 +80,8 @@ unfolding nexts
 steps-sets states actions k a b [] = refl
 steps-sets states actions k a b (x ∷ xs) = steps-sets states actions (suc k) (set a k (x .next)) (set b k (x .output)) xs
 
--- ---- flags
--- tests in another order
+-- ---- arrows
+-- tests in another order, and in the words of this page
 or-in : (a b c : Bool) → ((a || b) || c) ≡ (b || (a || c))
 or-in true true c = refl
 or-in true false c = refl
@@ -87,63 +91,83 @@ or-none : (a : Bool) → a ≡ (a || false)
 or-none true = refl
 or-none false = refl
 
-drawn-length : (v u : ℕ) (l : List Bool) → length l ≡ ARROWS → length (drawn v u l) ≡ ARROWS
-drawn-length v u l e = length-set l _ true ∙ e
+as-or : (a b c : Bool) → either (both a b) c ≡ ((a && b) || c)
+unfolding either both
+as-or true true c = refl
+as-or true false c = refl
+as-or false b c = refl
 
-drawn-at : (a b : ℕ) (l : List Bool) (k : ℕ) → length l ≡ ARROWS → k < ARROWS → a < BOXES → b < BOXES →
-    getD (drawn a b l) k false ≡ ((eqb a (k / BOXES) && eqb b (k % BOXES)) || getD l k false)
-drawn-at a b l k e q p r =
-    by-test (eqb a (k / BOXES)) (λ s. by-test (eqb b (k % BOXES)) (λ t. here s t) (λ t. rw (s, t) (other (λ w. eqb-false b (k % BOXES) t (omega arith)))))
-    (λ s. rw s (other (λ w. eqb-false a (k / BOXES) s (omega arith))))
+as-and : (a b : Bool) → both a b ≡ (a && b)
+unfolding both
+as-and true b = refl
+as-and false b = refl
+
+-- every row is a set of boxes
+record Rows (l : List ℕ) : Type 0 where
+  long : length l ≡ BOXES
+  small : (v : ℕ) → getD l v 0 < 2 ^ BOXES
+
+rows-more : (a b : ℕ) (l : List ℕ) → Rows l → a < BOXES → b < BOXES → Rows (drawn a b l)
+rows-more a b l r p q = record { long = drawn-length a b l ∙ r .long; small = λ v. by-test (eqb a v) (λ e. here v (eqb-true a v e)) (λ e. other v (eqb-false a v e)) }
   where
-    here : eqb a (k / BOXES) ≡ true → eqb b (k % BOXES) ≡ true → getD (drawn a b l) k false ≡ ((eqb a (k / BOXES) && eqb b (k % BOXES)) || getD l k false)
-    here s t =
-        let x : a ≡ k / BOXES = eqb-true _ _ s in let y : b ≡ k % BOXES = eqb-true _ _ t in
-        let w : k ≡ a * BOXES + b = omega arith in
-        rw (s, t) (ap (λ i. getD (drawn a b l) i false) w ∙ getD-set-same l (a * BOXES + b) true false (omega arith))
+    more : including (getD l a 0) b < 2 ^ BOXES
+    more = including-small BOXES (getD l a 0) b (r .small a) q
 
-    other : (k ≡ a * BOXES + b → ⊥) → getD (drawn a b l) k false ≡ getD l k false
-    other n = getD-set-other l (a * BOXES + b) k true false n
+    here : (v : ℕ) → a ≡ v → getD (drawn a b l) v 0 < 2 ^ BOXES
+    here v e = subst (λ x. getD (drawn a b l) x 0 < 2 ^ BOXES) e (subst (λ x. x < 2 ^ BOXES) (sym (getD-set-same l a (including (getD l a 0) b) 0 (omega (arith, r .long)))) more)
 
-none-length : length (replicate {A = Bool} ARROWS false) ≡ ARROWS
-none-length = length-replicate {A = Bool} ARROWS false
+    other : (v : ℕ) → (a ≡ v → ⊥) → getD (drawn a b l) v 0 < 2 ^ BOXES
+    other v n = subst (λ x. x < 2 ^ BOXES) (sym (getD-set-other l a v (including (getD l a 0) b) 0 (λ e. n (sym e)))) (r .small v)
 
-selves-at : (n k : ℕ) → n ≤ BOXES → k < ARROWS → getD (selves n (replicate ARROWS false)) k false ≡ (ltb (k / BOXES) n && eqb (k / BOXES) (k % BOXES))
+rows-none : Rows (replicate BOXES 0)
+rows-none = record {
+  long = length-replicate {A = ℕ} BOXES 0;
+  small = λ v. small-of BOXES (getD (replicate BOXES 0) v 0) (λ u e. not-both e (no-arrows BOXES v u));
+}
+
+rows-selves : (n : ℕ) → n ≤ BOXES → Rows (selves n (replicate BOXES 0))
 unfolding selves
-selves-at zero k l q = getD-replicate ARROWS k false false q ∙ sym (ap (λ t. t && eqb (k / BOXES) (k % BOXES)) (le-ltb (k / BOXES) 0 (omega arith)))
-selves-at (suc n) k l q =
-    drawn-at n n (selves n (replicate ARROWS false)) k (selves-length n (replicate ARROWS false) ∙ none-length) q (omega arith) (omega arith)
-    ∙ ap (λ r. (eqb n (k / BOXES) && eqb n (k % BOXES)) || r) (selves-at n k (omega arith) q)
-    ∙ by-order (k / BOXES) n
-    (λ h. rw (ne-eqb n (k / BOXES) (λ e. omega arith), lt-ltb (k / BOXES) n h, lt-ltb (k / BOXES) (suc n) (omega arith)) refl)
-    (λ h. rw (ne-eqb n (k / BOXES) (λ e. omega arith), le-ltb (k / BOXES) n (omega arith), le-ltb (k / BOXES) (suc n) (omega arith)) refl)
-    (λ h. rw (eq-eqb n (k / BOXES) (sym h), le-ltb (k / BOXES) n (omega arith), lt-ltb (k / BOXES) (suc n) (omega arith)) (ap (λ v. eqb v (k % BOXES) || false) (sym h) ∙ sym (or-none (eqb (k / BOXES) (k % BOXES)))))
+rows-selves zero h = rows-none
+rows-selves (suc n) h = rows-more n n (selves n (replicate BOXES 0)) (rows-selves n (omega arith)) (omega arith) (omega arith)
 
 ends-in : (ids : List ℕ) (i : ℕ) → length ids ≤ BOXES → Known ids i → position ids i < BOXES
 ends-in ids i l h = let p : position ids i < length ids = ltb-true _ _ (h .1) in omega arith
 
-draw-at : (ids : List ℕ) (xs : List Drawn) (l : List Bool) (k : ℕ) → length ids ≤ BOXES → Each (Arrow ids) xs → length l ≡ ARROWS → k < ARROWS →
-    getD (drawAll ids l xs) k false ≡ (getD l k false || leads ids xs (k / BOXES) (k % BOXES))
-unfolding drawAll leads
-draw-at ids [] l k m h e q = or-none (getD l k false)
-draw-at ids (paper.flow i j ∷ xs) l k m h e q =
-    draw-at ids xs (drawn (position ids i) (position ids j) l) k m (h .1) (drawn-length _ _ l e) q
-    ∙ ap (λ r. r || leads ids xs (k / BOXES) (k % BOXES)) (drawn-at (position ids i) (position ids j) l k e q (ends-in ids i m (h .0 .0)) (ends-in ids j m (h .0 .1)))
-    ∙ or-in (goes ids i j (k / BOXES) (k % BOXES)) (getD l k false) (leads ids xs (k / BOXES) (k % BOXES))
-draw-at ids (paper.both i j ∷ xs) l k m h e q =
-    let one = drawn-length (position ids i) (position ids j) l e in
-    draw-at ids xs (drawn (position ids j) (position ids i) (drawn (position ids i) (position ids j) l)) k m (h .1) (drawn-length (position ids j) (position ids i) (drawn (position ids i) (position ids j) l) one) q
-    ∙ ap (λ r. r || leads ids xs (k / BOXES) (k % BOXES)) (drawn-at (position ids j) (position ids i) (drawn (position ids i) (position ids j) l) k one q (ends-in ids j m (h .0 .1)) (ends-in ids i m (h .0 .0)))
-    ∙ or-in (goes ids j i (k / BOXES) (k % BOXES)) (getD (drawn (position ids i) (position ids j) l) k false) (leads ids xs (k / BOXES) (k % BOXES))
-    ∙ ap (λ r. r || (goes ids j i (k / BOXES) (k % BOXES) || leads ids xs (k / BOXES) (k % BOXES))) (drawn-at (position ids i) (position ids j) l k e q (ends-in ids i m (h .0 .0)) (ends-in ids j m (h .0 .1)))
-    ∙ or-in (goes ids i j (k / BOXES) (k % BOXES)) (getD l k false) (goes ids j i (k / BOXES) (k % BOXES) || leads ids xs (k / BOXES) (k % BOXES))
+one : (a b : ℕ) (l : List ℕ) → Rows l → a < BOXES → (v u : ℕ) → arrows.leads (drawn a b l) v u ≡ ((eqb a v && eqb b u) || arrows.leads l v u)
+one a b l r p v u = drawn-at a b l (omega (arith, r .long)) v u ∙ as-or (eqb a v) (eqb b u) (arrows.leads l v u)
 
-draw-length : (ids : List ℕ) (xs : List Drawn) (l : List Bool) → length l ≡ ARROWS → length (drawAll ids l xs) ≡ ARROWS
-unfolding drawAll
-draw-length ids [] l e = e
-draw-length ids (paper.flow i j ∷ xs) l e = draw-length ids xs _ (drawn-length _ _ l e)
-draw-length ids (paper.both i j ∷ xs) l e =
-    draw-length ids xs _ (drawn-length (position ids j) (position ids i) (drawn (position ids i) (position ids j) l) (drawn-length (position ids i) (position ids j) l e))
+-- what the arrows that are drawn one after the other lead to
+record Draws (ids : List ℕ) (xs : List Drawn) (l : List ℕ) : Type 0 where
+  rows : Rows (drawAll ids l xs)
+  at : (v u : ℕ) → arrows.leads (drawAll ids l xs) v u ≡ (arrows.leads l v u || leads ids xs v u)
+
+draws : (ids : List ℕ) (xs : List Drawn) (l : List ℕ) → length ids ≤ BOXES → Each (Arrow ids) xs → Rows l → Draws ids xs l
+unfolding drawAll leads
+draws ids [] l m h r = record { rows = r; at = λ v u. or-none (arrows.leads l v u) }
+draws ids (paper.flow i j ∷ xs) l m h r =
+    let a = position ids i in
+    let b = position ids j in
+    let p = ends-in ids i m (h .0 .0) in
+    let d = draws ids xs (drawn a b l) m (h .1) (rows-more a b l r p (ends-in ids j m (h .0 .1))) in
+    record {
+      rows = d .rows;
+      at = λ v u. d .at v u ∙ ap (λ t. t || leads ids xs v u) (one a b l r p v u) ∙ or-in (goes ids i j v u) (arrows.leads l v u) (leads ids xs v u);
+    }
+draws ids (paper.both i j ∷ xs) l m h r =
+    let a = position ids i in
+    let b = position ids j in
+    let p = ends-in ids i m (h .0 .0) in
+    let q = ends-in ids j m (h .0 .1) in
+    let r′ = rows-more a b l r p q in
+    let d = draws ids xs (drawn b a (drawn a b l)) m (h .1) (rows-more b a (drawn a b l) r′ q p) in
+    record {
+      rows = d .rows;
+      at = λ v u.
+          d .at v u ∙ ap (λ t. t || leads ids xs v u) (one b a (drawn a b l) r′ q v u)
+          ∙ or-in (goes ids j i v u) (arrows.leads (drawn a b l) v u) (leads ids xs v u)
+          ∙ ap (λ t. t || (goes ids j i v u || leads ids xs v u)) (one a b l r p v u)
+          ∙ or-in (goes ids i j v u) (arrows.leads l v u) (goes ids j i v u || leads ids xs v u);
+    }
 
 -- ---- labels
 box-at : (k : ℕ) (before : List ℕ) (bs : List Box) (left : List (List ℕ)) (i : ℕ) → Boxes before bs → i < length bs →
@@ -158,8 +182,8 @@ module _ (p : Paper) (g : Good p) where
   abbrev ids : List ℕ
   ids = idsOf (p .boxes)
 
-  abbrev own : List Bool
-  own = selves (length ids) (replicate ARROWS false)
+  abbrev own : List ℕ
+  own = selves (length ids) (replicate BOXES 0)
 
   ids-few : length ids ≤ BOXES
   ids-few = rw (ids-length (p .boxes)) (g .boxes-in .1)
@@ -191,16 +215,21 @@ module _ (p : Paper) (g : Good p) where
       ∙ ap (sets (zeros VIEW-ENTRIES) 0) (map-same (p .classes)) ∙ stored-zeros VIEW-ENTRIES (p .classes) (omega arith)
 
   arrows-mean : sheets.flowsEnd p g ≡ arrowsOf p
-  arrows-mean = tabulated false ARROWS _ (sheets.flowsEnd p g) (draw-length ids (p .arrows) own own-length) at
+  arrows-mean = tabulated 0 BOXES _ (sheets.flowsEnd p g) (all .rows .long) row
     where
-      own-length : length own ≡ ARROWS
-      own-length = selves-length (length ids) (replicate ARROWS false) ∙ none-length
+      all : Draws ids (p .arrows) own
+      all = draws ids (p .arrows) own ids-few (g .arrows) (rows-selves (length ids) ids-few)
 
-      at : (k : ℕ) → k < ARROWS → getD (sheets.flowsEnd p g) k false ≡ arrowAt p (k / BOXES) (k % BOXES)
-      at k q =
-          draw-at ids (p .arrows) own k ids-few (g .arrows) own-length q
-          ∙ ap (λ r. r || leads ids (p .arrows) (k / BOXES) (k % BOXES)) (selves-at (length ids) k ids-few q
-          ∙ ap (λ n. ltb (k / BOXES) n && eqb (k / BOXES) (k % BOXES)) (ids-length (p .boxes)))
+      at : (v u : ℕ) → arrows.leads (sheets.flowsEnd p g) v u ≡ arrowAt p v u
+      at v u =
+          all .at v u
+          ∙ ap (λ t. t || leads ids (p .arrows) v u) (selves-at (length ids) BOXES ids-few v u ∙ as-and (ltb v (length ids)) (eqb v u)
+          ∙ ap (λ n. ltb v n && eqb v u) (ids-length (p .boxes)))
+
+      row : (v : ℕ) → v < BOXES → getD (sheets.flowsEnd p g) v 0 ≡ pack (arrowAt p v) 0 BOXES
+      row v l =
+          same-members BOXES _ _ (all .rows .small v) (pack-small (arrowAt p v) BOXES 0)
+          (λ u k. at v u ∙ sym (has-pack (arrowAt p v) BOXES 0 u k ∙ ap (arrowAt p v) (omega arith)))
 
   parts-mean : sheets.partsEnd p g emptySteps (zeros VIEW-ENTRIES) ≡ partsOf p
   parts-mean =
@@ -285,7 +314,7 @@ module _ (p : Paper) (g : Good p) where
       let n = g .classes-many in let c = cell (length (p .boxes)) (p .states) x (le-refl (length (p .boxes))) y (le-refl (p .states)) in
       table-at VIEW-ENTRIES (p .classes) (u * p .states + s) (omega arith)
 
-  pub arrow-at : (v u : ℕ) → v < BOXES → u < BOXES → getD (partsOf p .drawn .arrows) (v * BOXES + u) false ≡ arrowAt p v u
+  pub arrow-at : (v u : ℕ) → v < BOXES → u < BOXES → arrows.leads (partsOf p .drawn .arrows) v u ≡ arrowAt p v u
   arrow-at v u x y =
-      tabulate-at ARROWS (λ k. arrowAt p (k / BOXES) (k % BOXES)) (v * BOXES + u) false (omega arith)
-      ∙ ap₂ (arrowAt p) (row-of BOXES v u y) (column-of BOXES v u y)
+      ap (λ row. has row u) (tabulate-at BOXES (λ v. pack (arrowAt p v) 0 BOXES) v 0 x)
+      ∙ has-pack (arrowAt p v) BOXES 0 u y ∙ ap (arrowAt p v) (omega arith)

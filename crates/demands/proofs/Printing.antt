@@ -10,7 +10,8 @@ use Rattle.sheet.specs.declared.Record.{Record}
 use Rattle.sheet.specs.declared.Flow.{Flow}
 use Rattle.sheet.specs.declared.Flow.the-variants as flow
 use Rattle.sheet.specs.Records.{position, boxLine, flowLine, onFlow}
-use Rattle.sheet.specs.Phases.{got, refused, drawn, flows}
+use Rattle.model.specs.Arrows.{drawn}
+use Rattle.sheet.specs.Phases.{got, refused, flows}
 use Rattle.demands.specs.Printed as paper
 use Rattle.demands.specs.Printed.{Box, Drawn, Each, Boxes, Arrow, idsOf, boxRow, arrowRow, rowsFrom}
 use Rattle.demands.proofs.Phases.{glues, no-got, Follow, nexts}
@@ -22,7 +23,7 @@ pub record Arrows (ids : List ℕ) (k : ℕ) (ls ls′ : List (List ℕ)) : Type
   pub good : Each (Arrow ids) items
   pub lines-are : ls ≡ glues (rowsFrom (λ _. arrowRow) k items) ++ ls′
 
-pub flows-back : (ids : List ℕ) (k : ℕ) (arrows : List Bool) (ls : List (List ℕ)) (n : ℕ) {arrows′ : List Bool} {ls′ : List (List ℕ)} {n′ : ℕ} →
+pub flows-back : (ids : List ℕ) (k : ℕ) (arrows : List ℕ) (ls : List (List ℕ)) (n : ℕ) {arrows′ : List ℕ} {ls′ : List (List ℕ)} {n′ : ℕ} →
     flows ids arrows ls n ≡ got arrows′ ls′ n′ → Arrows ids k ls ls′
 unfolding flows glues rowsFrom
 flows-back ids k arrows [] n h = record { items = []; good = tt; lines-are = cc }
@@ -32,7 +33,7 @@ flows-back ids k arrows (l ∷ ls) n {arrows′} {ls′} {n′} h =
     more : {r : Flow} → Draws ids l r → Arrows ids (suc k) ls ls′ → Arrows ids k (l ∷ ls) ls′
     more d a = record { items = d .x ∷ a .items; good = (d .good, a .good); lines-are = ap₂ (λ y ys. y ∷ ys) (d .is) (a .lines-are) }
 
-    go : (r : Flow) → Drawing ids l r → ((a : List Bool) → flows ids a ls (suc n) ≡ got arrows′ ls′ n′ → Arrows ids (suc k) ls ls′) →
+    go : (r : Flow) → Drawing ids l r → ((a : List ℕ) → flows ids a ls (suc n) ≡ got arrows′ ls′ n′ → Arrows ids (suc k) ls ls′) →
         onFlow r (λ v u. flows ids (drawn v u arrows) ls (suc n)) (λ v u. flows ids (drawn u v (drawn v u arrows)) ls (suc n)) (λ e. refused e n) (got arrows (l ∷ ls) n)
         ≡ got arrows′ ls′ n′ → Arrows ids k (l ∷ ls) ls′
     go (flow.One v u) d back h = more d (back _ h)
@@ -40,14 +41,14 @@ flows-back ids k arrows (l ∷ ls) n {arrows′} {ls′} {n′} h =
     go (flow.Not e) d back h = no-got h
     go flow.Other d back h = record { items = []; good = tt; lines-are = cc }
 
--- what arrows make of flags, one after the other
-unfoldable pub drawAll : List ℕ → List Bool → List Drawn → List Bool
+-- what arrows make of rows, one after the other
+unfoldable pub drawAll : List ℕ → List ℕ → List Drawn → List ℕ
 drawAll ids arrows [] = arrows
 drawAll ids arrows (paper.flow i j ∷ xs) = drawAll ids (drawn (position ids i) (position ids j) arrows) xs
 drawAll ids arrows (paper.both i j ∷ xs) = drawAll ids (drawn (position ids j) (position ids i) (drawn (position ids i) (position ids j) arrows)) xs
 
 -- they end where a line draws nothing
-pub flows-print : (ids : List ℕ) (k : ℕ) (xs : List Drawn) (arrows : List Bool) (l : List ℕ) (ls : List (List ℕ)) (n : ℕ) → Each (Arrow ids) xs → flowLine ids l ≡ flow.Other →
+pub flows-print : (ids : List ℕ) (k : ℕ) (xs : List Drawn) (arrows : List ℕ) (l : List ℕ) (ls : List (List ℕ)) (n : ℕ) → Each (Arrow ids) xs → flowLine ids l ≡ flow.Other →
     (m : ℕ) × (flows ids arrows (glues (rowsFrom (λ _. arrowRow) k xs) ++ (l ∷ ls)) n ≡ got (drawAll ids arrows xs) (l ∷ ls) m)
 unfolding flows glues rowsFrom drawAll
 flows-print ids k [] arrows l ls n h e = (n, rw e refl)

@@ -8,7 +8,7 @@ use native.Mathlib.Omega.{arith}
 use lib.Dec.{eqb, ltb, leb}
 use lib.ListN.{length, getD, set, take, replicate, length-replicate}
 use borrow.Author.Tests.{eqb-true, leb-true}
-use Rattle.model.specs.Limits.{BOXES, ACTIONS, ARROWS, NEXT-ENTRIES, OUTPUT-ENTRIES, VIEW-ENTRIES, SHEET-BYTES, LARGEST-NUMBER}
+use Rattle.model.specs.Limits.{BOXES, ACTIONS, NEXT-ENTRIES, OUTPUT-ENTRIES, VIEW-ENTRIES, SHEET-BYTES, LARGEST-NUMBER}
 use Rattle.model.specs.Made.{sizesFrom}
 use Rattle.model.specs.Good.{GoodSizes}
 use Rattle.model.specs.declared.Sizes.{Sizes}
@@ -17,7 +17,8 @@ use Rattle.sheet.specs.declared.Record.{Record}
 use Rattle.sheet.specs.declared.Record.the-variants.{Numbers, Not}
 use Rattle.sheet.specs.Numbers.{onRecord}
 use Rattle.sheet.specs.Records.{sized, position, sheetLine, actLine, goLine, viewLine}
-use Rattle.sheet.specs.Phases.{Got, got, refused, Steps, steps, boxes, acts, goes, selves, flows, views}
+use Rattle.model.specs.Arrows.{selves}
+use Rattle.sheet.specs.Phases.{Got, got, refused, Steps, steps, boxes, acts, goes, flows, views}
 use Rattle.sheet.specs.Reading.{onGot, Drawn, drawing, Parts, partsAs, parts, model, refusal, finish, sheetLines, zeros, sheetText}
 use Rattle.sheet.proofs.Good.{both-true, sheet-good}
 use Rattle.demands.specs.Printed as paper
@@ -139,8 +140,8 @@ module _ (states actions : ℕ) (table : Steps) (classes : List ℕ) where
       let g = through (goes states actions table (a .left) (a .at)) _ (d .is) in
       let gt = phase-back (goesLine states actions) (storeGo states actions) (goRow actions) (nextGo states actions) (GoAt states actions)
       (goes-back states actions) (states * actions) 0 table (a .left) (a .at) (g .is) in
-      let f = through (flows ids (selves (length ids) (replicate ARROWS false)) (g .left) (g .at)) _ (g .then) in
-      let ft = flows-back ids 0 (selves (length ids) (replicate ARROWS false)) (g .left) (g .at) (f .is) in
+      let f = through (flows ids (selves (length ids) (replicate BOXES 0)) (g .left) (g .at)) _ (g .then) in
+      let ft = flows-back ids 0 (selves (length ids) (replicate BOXES 0)) (g .left) (g .at) (f .is) in
       let v = through (views ids states classes (f .left) (f .at)) _ (f .then) in
       let vt = phase-back (viewsLine ids states) (storeView ids states) (viewRow ids states) (nextView ids states) (ViewAt ids states)
       (views-back ids states) (length ids * states) 0 classes (f .left) (f .at) (v .is) in

@@ -9,13 +9,14 @@ use native.Mathlib.Omega.{arith}
 use native.Mathlib.Nat.{div-le-self, mod-le, mul-le-mul}
 use lib.ListN.{length, getD, take, replicate, length-replicate}
 use borrow.Author.Tests.{eq-eqb, lt-ltb, le-leb}
-use Rattle.model.specs.Limits.{BOXES, ACTIONS, ARROWS, VIEW-ENTRIES, SHEET-BYTES, LARGEST-ID, LARGEST-NUMBER, STATES}
+use Rattle.model.specs.Limits.{BOXES, ACTIONS, VIEW-ENTRIES, SHEET-BYTES, LARGEST-ID, LARGEST-NUMBER, STATES}
 use Rattle.model.specs.Good.{GoodSizes}
 use Rattle.text.specs.Lines.{lines}
 use Rattle.sheet.specs.declared.Record.{Record}
 use Rattle.sheet.specs.Records.{position}
 use Rattle.sheet.specs.Phases as phases
-use Rattle.sheet.specs.Phases.{Got, got, Steps, steps, boxes, acts, goes, selves, flows, views}
+use Rattle.model.specs.Arrows.{selves}
+use Rattle.sheet.specs.Phases.{Got, got, Steps, steps, boxes, acts, goes, flows, views}
 use Rattle.sheet.specs.Reading.{Drawn, drawnAs, drawing, Parts, partsAs, parts, Reading, model, refusal, sheetLines, zeros, sheetText}
 use Rattle.sheet.specs.Words as words
 use Rattle.sheet.specs.Meaning.{RefusedText}
@@ -85,7 +86,7 @@ unfolding rowsFrom
 boxes-plain k before [] h = tt
 boxes-plain k before (b ∷ bs) h = (box-plain b (h .0 .2), boxes-plain (suc k) (before ++ (b .id ∷ [])) bs (h .1))
 
-view-ends : (ids : List ℕ) (states : ℕ) (xs : List paper.Drawn) (arrows : List Bool) (c : ℕ) (cs : List ℕ) (n : ℕ) → Each (Arrow ids) xs →
+view-ends : (ids : List ℕ) (states : ℕ) (xs : List paper.Drawn) (arrows : List ℕ) (c : ℕ) (cs : List ℕ) (n : ℕ) → Each (Arrow ids) xs →
     Reads (flows ids arrows (glues (rowsFrom (λ _. arrowRow) 0 xs) ++ (glues (rowsFrom (viewRow ids states) 0 (c ∷ cs)) ++ [])) n) (drawAll ids arrows xs) (glues (rowsFrom (viewRow ids states) 0 (c ∷ cs)) ++ [])
 unfolding glues rowsFrom
 view-ends ids states xs arrows c cs n h =
@@ -136,8 +137,8 @@ module _ (p : Paper) (g : Good p) where
   abbrev pub viewsEnd : List ℕ → List ℕ
   viewsEnd classes = nexts (viewsLine ids (p .states)) (storeView ids (p .states)) (viewRow ids (p .states)) (nextView ids (p .states)) (ViewAt ids (p .states)) 0 classes (p .classes)
 
-  abbrev pub flowsEnd : List Bool
-  flowsEnd = drawAll ids (selves (length ids) (replicate ARROWS false)) (p .arrows)
+  abbrev pub flowsEnd : List ℕ
+  flowsEnd = drawAll ids (selves (length ids) (replicate BOXES 0)) (p .arrows)
 
   abbrev pub partsEnd : Steps → List ℕ → Parts
   partsEnd table classes = partsAs (boxesEnd 0 (replicate BOXES 0) (p .boxes)) actsEnd (drawnAs (goesEnd table) flowsEnd (viewsEnd classes))
@@ -171,7 +172,7 @@ module _ (p : Paper) (g : Good p) where
   viewLines = glues (rowsFrom (viewRow ids (p .states)) 0 (p .classes)) ++ []
 
   -- there is a view, and it ends the arrows
-  flows-read : (arrows : List Bool) (n : ℕ) → Reads (flows ids arrows (arrowLines ++ viewLines) n) (drawAll ids arrows (p .arrows)) viewLines
+  flows-read : (arrows : List ℕ) (n : ℕ) → Reads (flows ids arrows (arrowLines ++ viewLines) n) (drawAll ids arrows (p .arrows)) viewLines
   flows-read arrows n = go (p .classes) (g .classes-many)
     where
       go : (cs : List ℕ) → length cs ≡ length (p .boxes) * p .states →
@@ -184,7 +185,7 @@ module _ (p : Paper) (g : Good p) where
   unfolding drawing
   drawing-read table classes n =
       let a = goes-read table (arrowLines ++ viewLines) n in
-      let b = flows-read (selves (length ids) (replicate ARROWS false)) (a .at) in
+      let b = flows-read (selves (length ids) (replicate BOXES 0)) (a .at) in
       let c = views-read classes (b .at) in
       record { at = c .at; is = rw (a .is, b .is, c .is) refl }
 

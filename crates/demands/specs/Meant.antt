@@ -1,11 +1,12 @@
 -- What a sheet on paper means: the parts of the model that it stands for, each by name, and its labels.
 use mathlib.Core.Bool.{Bool, false, _&&_, _||_}
 use mathlib.Core.List.{List, [], _∷_, _++_, map}
-use Prim.Native.Nat.{ℕ, _+_, _-_, _*_, _/_, _%_}
+use Prim.Native.Nat.{ℕ, _+_, _-_, _*_}
 use lib.Dec.{eqb, ltb}
 use lib.ListN.{length, getD}
 use Rattle.laws.specs.Range.{tabulate}
-use Rattle.model.specs.Limits.{ACTIONS, BOXES, ARROWS, NEXT-ENTRIES, OUTPUT-ENTRIES, VIEW-ENTRIES}
+use Rattle.laws.specs.Sets.{pack}
+use Rattle.model.specs.Limits.{ACTIONS, BOXES, NEXT-ENTRIES, OUTPUT-ENTRIES, VIEW-ENTRIES}
 use Rattle.model.specs.Made.{sizesFrom}
 use Rattle.model.specs.declared.Sizes.{Sizes}
 use Rattle.sheet.specs.Records.{position}
@@ -45,9 +46,9 @@ leads ids (paper.both i j ∷ xs) v u = goes ids i j v u || (goes ids j i v u ||
 abbrev pub arrowAt : Paper → ℕ → ℕ → Bool
 arrowAt p v u = (ltb v (length (p .boxes)) && eqb v u) || leads (idsOf (p .boxes)) (p .arrows) v u
 
--- the flag of v and u is number v * BOXES + u
-abbrev pub arrowsOf : Paper → List Bool
-arrowsOf p = tabulate ARROWS (λ k. arrowAt p (k / BOXES) (k % BOXES))
+-- a row for each box: the set of those that an arrow leads to
+abbrev pub arrowsOf : Paper → List ℕ
+arrowsOf p = tabulate BOXES (λ v. pack (arrowAt p v) 0 BOXES)
 
 abbrev pub partsOf : Paper → Parts
 partsOf p =

@@ -129,13 +129,13 @@ pub(crate) fn ids(answer: &mut [u8; ANSWER_BYTES], to: &mut usize, list: &[u32; 
     }
 }
 
-pub(crate) fn arrows(
-    answer: &mut [u8; ANSWER_BYTES],
-    to: &mut usize,
-    list: &[bool; model::ARROWS],
-) {
+pub(crate) fn arrows(answer: &mut [u8; ANSWER_BYTES], to: &mut usize, rows: &[u32; model::BOXES]) {
     'arrows: for i in 0..model::ARROWS {
-        flag(answer, to, list[i]);
+        flag(
+            answer,
+            to,
+            model::arrow(rows, i / model::BOXES, i % model::BOXES),
+        );
     }
 }
 

@@ -87,12 +87,17 @@ fn ids(request: &[u8], at: &mut usize) -> [u32; model::BOXES] {
     list
 }
 
-fn arrows(request: &[u8], at: &mut usize) -> [bool; model::ARROWS] {
-    let mut list = [false; model::ARROWS];
+// A flag for each arrow, source * BOXES + target.
+fn arrows(request: &[u8], at: &mut usize) -> [u32; model::BOXES] {
+    let mut rows = [0u32; model::BOXES];
     'arrows: for i in 0..model::ARROWS {
-        list[i] = n1(request, at) != 0;
+        let source = i / model::BOXES;
+        let target = i % model::BOXES;
+        if n1(request, at) != 0 {
+            rows[source] = rows[source] | 1u32 << target;
+        }
     }
-    list
+    rows
 }
 
 pub(crate) fn whole_machine(request: &[u8], at: &mut usize) -> Machine {

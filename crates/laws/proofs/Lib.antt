@@ -10,3 +10,4 @@ pub mod Filled
 pub mod Copied
 pub mod Loops
 pub mod Tables
+pub mod Sets

@@ -3,4 +3,5 @@ pub mod Search
 pub mod Range
 pub mod Lists
 pub mod Order
+pub mod Sets
 pub mod Filled

@@ -1,15 +1,19 @@
 -- What is not refused is good, and what is good is not refused.
 -- Assumes nothing.
-use mathlib.Core.Path.{_≡_}
+use mathlib.Core.Path.{_≡_, sym, _∙_}
 use mathlib.Core.Logic.{_↔_}
 use mathlib.Core.Bool.{true, not}
 use mathlib.Core.List.{List}
-use Prim.Native.Nat.{ℕ, _<_, _≤_}
+use Prim.Native.Nat.{ℕ, _^_, _<_, _≤_}
+use native.Mathlib.Omega.{arith}
 use lib.Dec.{eqb}
-use borrow.Author.Tests.{ltb-true, leb-true, lt-ltb, le-leb, eq-eqb, ne-eqb, not-true}
-use Rattle.laws.proofs.Tests.{both-true, both-of, brings-at, brings-of, not-both}
-use Rattle.laws.proofs.Range.{every-at, every-of}
-use Rattle.model.specs.Refused.{sized, sizesFit, ownersFit, machineFits, nextFits, idsFit, arrowsFit, selvesFit, drawingFits, machineTableFits, modelFits, modelTableFits}
+use borrow.Author.Tests.{ltb-true, leb-true, lt-ltb, le-ltb, le-leb, eq-eqb, ne-eqb, not-true}
+use Rattle.laws.proofs.Tests.{both-true, both-of, not-both}
+use Rattle.laws.proofs.Range.{every-at, every-of, by-order}
+use Rattle.laws.specs.Choice.{choose}
+use Rattle.laws.specs.Sets.{has}
+use Rattle.laws.proofs.Sets.{has-beyond, small-of}
+use Rattle.model.specs.Refused.{sized, sizesFit, ownersFit, machineFits, nextFits, idsFit, rowFits, arrowsFit, selvesFit, drawingFits, machineTableFits, modelFits, modelTableFits}
 use Rattle.model.specs.Good.{GoodMachine, GoodTable, GoodDrawing}
 use Rattle.model.specs.declared.Machine.{Machine}
 use Rattle.model.specs.declared.Model.{Model}
@@ -73,6 +77,32 @@ table-good m next = (
 )
 
 -- ---- what is drawn
+-- a row fits exactly where its bits are boxes, and its own number is one if it has any
+row-in : (boxes v row : ℕ) → rowFits boxes v row ≡ true → (u : ℕ) → has row u ≡ true → (v < boxes) × (u < boxes)
+unfolding rowFits choose
+row-in boxes v row e u d =
+    by-order v boxes
+    (λ l. (l, in-row boxes (ltb-true row (2 ^ boxes) (sym (rw (lt-ltb v boxes l)) ∙ e))))
+    (λ l. absurd (none (omega arith)))
+    (λ l. absurd (none (omega arith)))
+  where
+    in-row : (n : ℕ) → row < 2 ^ n → u < n
+    in-row n l = by-order u n (λ k. k) (λ k. not-both d (has-beyond n row u l (omega arith))) (λ k. not-both d (has-beyond n row u l (omega arith)))
+
+    none : boxes ≤ v → ⊥
+    none l = let k = in-row 0 (ltb-true row 1 (sym (rw (le-ltb v boxes l)) ∙ e)) in omega arith
+
+row-of : (boxes v row : ℕ) → ((u : ℕ) → has row u ≡ true → (v < boxes) × (u < boxes)) → rowFits boxes v row ≡ true
+unfolding rowFits choose
+row-of boxes v row h =
+    by-order v boxes
+    (λ l. rw (lt-ltb v boxes l) (lt-ltb row (2 ^ boxes) (small-of boxes row (λ u d. h u d .1))))
+    (λ l. rw (le-ltb v boxes (omega arith)) (lt-ltb row 1 (none (omega arith))))
+    (λ l. rw (le-ltb v boxes (omega arith)) (lt-ltb row 1 (none (omega arith))))
+  where
+    none : boxes ≤ v → row < 1
+    none l = small-of 0 row (λ u d. absurd (let k = h u d .0 in omega arith))
+
 pub drawing-good : (m : Model) → (drawingFits m ≡ true) ↔ GoodDrawing m
 unfolding drawingFits idsFit arrowsFit selvesFit
 drawing-good m = (
@@ -81,14 +111,13 @@ drawing-good m = (
       record {
         id-small = λ u l. leb-true _ _ (both-true _ _ (every-at _ _ (a .0) u l) .0);
         id-once = λ u v l k. unlike-is _ _ .0 (every-at _ _ (both-true _ _ (every-at _ _ (a .0) u l) .1) v k);
-        arrow-in = λ v u lv lu d. let h = both-true _ _ (brings-at _ _ (every-at _ _ (every-at _ _ (b .0) v lv) u lu) d) in
-            (ltb-true _ _ (h .0), ltb-true _ _ (h .1));
+        arrow-in = λ v u lv d. row-in (m .machine .sizes .boxes) v _ (every-at _ _ (b .0) v lv) u d;
         self = λ u l. every-at _ _ (b .1) u l;
       },
   λ g. both-of
       (every-of _ _ (λ u l. both-of (le-leb _ _ (g .id-small u l)) (every-of _ _ (λ v k. unlike-is _ _ .1 (g .id-once u v l k)))))
       (both-of
-      (every-of _ _ (λ v lv. every-of _ _ (λ u lu. brings-of _ (λ d. let h = g .arrow-in v u lv lu d in both-of (lt-ltb _ _ (h .0)) (lt-ltb _ _ (h .1))))))
+      (every-of _ _ (λ v lv. row-of (m .machine .sizes .boxes) v _ (λ u d. g .arrow-in v u lv d)))
       (every-of _ _ (λ u l. g .self u l))),
 )
 

@@ -1,12 +1,11 @@
 -- What values and tables denote: a kind of purge, a machine, a policy and views.
-use mathlib.Core.Bool.{false}
 use mathlib.Core.List.{List}
 use Prim.Native.Nat.{ℕ, _+_, _*_}
 use lib.ListN.{getD}
 use Rattle.noninterference.specs.Machine as noninterference
 use Rattle.noninterference.specs.Purge as kinds
 use Rattle.noninterference.specs.Purge.{Policy}
-use Rattle.model.specs.Limits.{BOXES}
+use Rattle.model.specs.Arrows.{leads}
 use Rattle.model.specs.declared.Kind.{Kind}
 use Rattle.model.specs.declared.Kind.the-variants.{Plain, Intransitive}
 use Rattle.model.specs.declared.Machine.{Machine}
@@ -40,9 +39,9 @@ machineOf m next outputs = record {
   sees = outputAt m outputs;
 }
 
--- the drawn arrows: source × boxes + target, for the most boxes that there can be
+-- the drawn arrows
 abbrev pub policyOf : Model → Policy
-policyOf m v u = getD (m .arrows) (v * BOXES + u) false
+policyOf m = leads (m .arrows)
 
 -- a box's class of a state: box position × states + state
 abbrev pub viewOf : Machine → List ℕ → ℕ → ℕ → ℕ

@@ -30,5 +30,5 @@ pub record GoodTable (m : Machine) (next : List ℕ) : Type 0 where
 pub record GoodDrawing (m : Model) : Type 0 where
   pub id-small : (u : ℕ) → u < m .machine .sizes .boxes → getD (m .ids) u 0 ≤ LARGEST-ID
   pub id-once : (u v : ℕ) → u < m .machine .sizes .boxes → v < u → getD (m .ids) v 0 ≡ getD (m .ids) u 0 → ⊥
-  pub arrow-in : (v u : ℕ) → v < BOXES → u < BOXES → policyOf m v u ≡ true → (v < m .machine .sizes .boxes) × (u < m .machine .sizes .boxes)
+  pub arrow-in : (v u : ℕ) → v < BOXES → policyOf m v u ≡ true → (v < m .machine .sizes .boxes) × (u < m .machine .sizes .boxes)
   pub self : (u : ℕ) → u < m .machine .sizes .boxes → policyOf m u u ≡ true

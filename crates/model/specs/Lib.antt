@@ -1,5 +1,6 @@
 pub mod Limits
 pub mod Made
+pub mod Arrows
 pub mod Denoted
 pub mod Refused
 pub mod Good

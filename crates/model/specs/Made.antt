@@ -1,5 +1,4 @@
 -- Sizes, a machine and a model from their parts.
-use mathlib.Core.Bool.{Bool}
 use mathlib.Core.List.{List}
 use Prim.Native.Nat.{ℕ}
 use Rattle.model.specs.declared.Sizes.{Sizes}
@@ -12,5 +11,5 @@ sizesFrom states actions boxes start = record { states = states; actions = actio
 abbrev pub machineFrom : Sizes → List ℕ → Machine
 machineFrom sizes owners = record { sizes = sizes; owners = owners }
 
-abbrev pub modelFrom : Machine → List ℕ → List Bool → Model
+abbrev pub modelFrom : Machine → List ℕ → List ℕ → Model
 modelFrom machine ids arrows = record { machine = machine; ids = ids; arrows = arrows }

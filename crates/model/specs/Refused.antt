@@ -1,10 +1,10 @@
 -- When values and tables that are handed in are refused: 10 for a table of another length, 12 for what breaks the rules.
 use mathlib.Core.Bool.{Bool, not}
 use mathlib.Core.List.{List}
-use Prim.Native.Nat.{ℕ}
+use Prim.Native.Nat.{ℕ, _^_}
 use lib.Dec.{eqb, ltb, leb}
 use lib.ListN.{getD}
-use Rattle.laws.specs.Choice.{both, brings}
+use Rattle.laws.specs.Choice.{both, choose}
 use Rattle.laws.specs.Range.{every}
 use Rattle.model.specs.Limits.{STATES, ACTIONS, BOXES, LARGEST-ID}
 use Rattle.model.specs.Denoted.{nextAt, ownerAt, policyOf}
@@ -36,10 +36,13 @@ idsFit m =
     every (m .machine .sizes .boxes) λ u.
     both (leb (getD (m .ids) u 0) LARGEST-ID) (every u λ v. not (eqb (getD (m .ids) v 0) (getD (m .ids) u 0)))
 
--- every arrow, of all that there is room for, has its ends among the boxes, and no self-arrow of a box is missing
+-- a row has bits of boxes only, and none beyond the last box
+unfoldable pub rowFits : ℕ → ℕ → ℕ → Bool
+rowFits boxes v row = ltb row (choose (ltb v boxes) (2 ^ boxes) 1)
+
+-- every arrow has its ends among the boxes, and no self-arrow of a box is missing
 unfoldable pub arrowsFit : Model → Bool
-arrowsFit m =
-    every BOXES λ v. every BOXES λ u. brings (policyOf m v u) (both (ltb v (m .machine .sizes .boxes)) (ltb u (m .machine .sizes .boxes)))
+arrowsFit m = every BOXES λ v. rowFits (m .machine .sizes .boxes) v (getD (m .arrows) v 0)
 
 unfoldable pub selvesFit : Model → Bool
 selvesFit m = every (m .machine .sizes .boxes) λ u. policyOf m u u

@@ -1,15 +1,16 @@
 // A model as values and three lent tables, and the limits that every crate goes by.
 ghost use mathlib.Core.Path.{_≡_};
-ghost use mathlib.Core.Bool.{false, not};
-ghost use Prim.Native.Nat.{_+_, _*_, _<_, _≤_};
+ghost use mathlib.Core.Bool.{not};
+ghost use Prim.Native.Nat.{_+_, _*_, _^_, _<_, _≤_};
 ghost use lib.Dec.{eqb, ltb};
 ghost use lib.ListN.{getD, length};
-ghost use Rattle.laws.specs.Choice.{both, brings};
 ghost use Rattle.laws.specs.Range.{every};
+ghost use Rattle.laws.specs.Sets.{has};
 ghost use Rattle.model.specs.Limits.{STATES, ACTIONS, BOXES};
+ghost use Rattle.model.specs.Arrows.{leads};
 ghost use Rattle.model.specs.Made.{sizesFrom, machineFrom, modelFrom};
 ghost use Rattle.model.specs.Highest.{Higher, Highest};
-ghost use Rattle.model.specs.Refused.{sized, sizesFit, ownersFit, machineFits, nextFits, idsFit, arrowsFit, selvesFit, drawingFits, machineTableFits, modelFits, modelTableFits};
+ghost use Rattle.model.specs.Refused.{sized, sizesFit, ownersFit, machineFits, nextFits, idsFit, rowFits, arrowsFit, selvesFit, drawingFits, machineTableFits, modelFits, modelTableFits};
 
 // The three limits that every other one of a model follows from.
 pub const STATES: usize = 128;
@@ -18,7 +19,7 @@ pub const ACTIONS: usize = 32;
 
 pub const BOXES: usize = 16;
 
-// An arrow from box v to box u stands at v * BOXES + u.
+// A flag for each arrow, from box v to box u at v * BOXES + u.
 pub const ARROWS: usize = BOXES * BOXES;
 
 // The lengths of the lent tables: next states, outputs, view classes.
@@ -67,11 +68,11 @@ pub struct Machine {
     pub owners: [u8; ACTIONS],
 }
 
-// A machine with the boxes' ids and the drawn arrows.
+// A machine with the boxes' ids and the drawn arrows: bit u of row v says that an arrow leads from v to u.
 pub struct Model {
     pub machine: Machine,
     pub ids: [u32; BOXES],
-    pub arrows: [bool; ARROWS],
+    pub arrows: [u32; BOXES],
 }
 
 impl Sizes {
@@ -96,7 +97,7 @@ impl Machine {
 }
 
 impl Model {
-    pub fn new(machine: Machine, ids: [u32; BOXES], arrows: [bool; ARROWS]) -> Self
+    pub fn new(machine: Machine, ids: [u32; BOXES], arrows: [u32; BOXES]) -> Self
         ensures { λ r. ⌜ r ≡ modelFrom machine ids arrows ⌝ }
     {
         Self {
@@ -149,12 +150,22 @@ pub fn id(ids: &[u32], position: usize) -> u32
     0
 }
 
-// Whether an arrow is drawn, none beyond the end of the list.
-pub fn arrow(arrows: &[bool], index: usize) -> bool
-    ensures { λ r. ⌜ r ≡ getD (now (arrows .entry)) index false ⌝ }
+// Whether a number is in a set of numbers below the width of a word.
+pub fn contains(set: u32, member: usize) -> bool
+    ensures { λ r. ⌜ r ≡ has set member ⌝ }
 {
-    if index < arrows.len() {
-        return arrows[index];
+    if member < 32 {
+        return (set >> member) % 2 == 1;
+    }
+    false
+}
+
+// Whether an arrow leads from one box to another, none from beyond the rows.
+pub fn arrow(arrows: &[u32], source: usize, target: usize) -> bool
+    ensures { λ r. ⌜ r ≡ leads (now (arrows .entry)) source target ⌝ }
+{
+    if source < arrows.len() {
+        return contains(arrows[source], target);
     }
     false
 }
@@ -295,40 +306,38 @@ fn ids_fit(model: Model) -> bool
     true
 }
 
-// Whether an arrow, where it is drawn, has its ends among the boxes.
-fn ends_fit(arrows: &[bool], source: usize, target: usize, boxes: usize) -> bool
-    requires { ⌜ (source < BOXES) × (target < BOXES) ⌝ }
-    ensures { λ r. ⌜ r ≡ brings (getD (now (arrows .entry)) (source * BOXES + target) false) (both (ltb source boxes) (ltb target boxes)) ⌝ }
+fn wide32(x: u32) -> u64
+    ensures { λ r. ⌜ r ≡ x ⌝ }
 {
-    if arrow(arrows, source * BOXES + target) {
-        if boxes <= source {
-            return false;
-        }
-        return target < boxes;
-    }
-    true
+    x as u64
 }
 
-fn targets_fit(arrows: &[bool], source: usize, boxes: usize) -> bool
-    requires { ⌜ source < BOXES ⌝ }
-    ensures { λ r. ⌜ r ≡ every BOXES (λ u. brings (getD (now (arrows .entry)) (source * BOXES + u) false) (both (ltb source boxes) (ltb u boxes))) ⌝ }
+fn power(n: usize) -> u64
+    requires { ⌜ n ≤ BOXES ⌝ }
+    ensures { λ r. ⌜ r ≡ 2 ^ n ⌝ }
 {
-    'targets: for u in 0..BOXES {
-        if ends_fit(arrows, source, u, boxes) {
-            continue 'targets;
-        }
-        return false;
+    1u64 << n
+}
+
+// Whether a row leads to boxes only, and to none from beyond the last box.
+fn targets_fit(row: u32, source: usize, boxes: usize) -> bool
+    requires { ⌜ boxes ≤ BOXES ⌝ }
+    ensures { λ r. ⌜ r ≡ rowFits boxes source row ⌝ }
+{
+    if source < boxes {
+        return wide32(row) < power(boxes);
     }
-    true
+    row < 1
 }
 
 fn arrows_fit(model: Model) -> bool
+    requires { ⌜ model .machine .sizes .boxes ≤ BOXES ⌝ }
     ensures { λ r. ⌜ r ≡ arrowsFit model ⌝ }
 {
     let boxes = model.machine.sizes.boxes;
     let arrows = model.arrows;
     'sources: for v in 0..BOXES {
-        if targets_fit(&arrows, v, boxes) {
+        if targets_fit(arrows[v], v, boxes) {
             continue 'sources;
         }
         return false;
@@ -343,7 +352,7 @@ fn selves_fit(model: Model) -> bool
     let boxes = model.machine.sizes.boxes;
     let arrows = model.arrows;
     'boxes: for u in 0..boxes {
-        if arrow(&arrows, u * BOXES + u) {
+        if arrow(&arrows, u, u) {
             continue 'boxes;
         }
         return false;

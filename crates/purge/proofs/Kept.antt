@@ -14,8 +14,9 @@ use Rattle.laws.proofs.Tests.{by-test}
 use Rattle.noninterference.specs.Purge.{Policy, plain, intransitive, purge, sources, keeps}
 use Rattle.noninterference.proofs.Sources.{keeps-is}
 use Rattle.model.specs.Limits.{BOXES, ACTIONS}
-use Rattle.purge.specs.Sets.{has, pack, touching, touches, marked, present}
-use Rattle.purge.proofs.Sets.{has-or, has-pack}
+use Rattle.laws.specs.Sets.{has, pack}
+use Rattle.purge.specs.Sets.{touching, touches, marked, present}
+use Rattle.laws.proofs.Sets.{has-or, has-pack}
 
 either-swap : (a b : Bool) → either a b ≡ either b a
 unfolding either

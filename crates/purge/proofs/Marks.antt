@@ -10,7 +10,8 @@ use lib.ListN.{length, getD, set}
 use lib.Seq.{take-length, drop-length}
 use borrow.Rule.Slice.PartMut.{putMid, midOf}
 use Rattle.laws.specs.Choice.{choose}
-use Rattle.purge.specs.Sets.{has, touching, touches, marked}
+use Rattle.laws.specs.Sets.{has}
+use Rattle.purge.specs.Sets.{touching, touches, marked}
 
 -- what is left after the first
 rest : (x : ℕ) (xs : List ℕ) → midOf 1 (length (x ∷ xs) - 1) (x ∷ xs) ≡ xs

@@ -9,12 +9,14 @@ use lib.ListN.{length, getD, replicate}
 use borrow.Author.Tests.{ltb-true}
 use Rattle.laws.specs.Lists.{All}
 use Rattle.laws.proofs.Range.{every-at}
+use Rattle.model.specs.Arrows.{leads}
 use Rattle.model.specs.Limits.{BOXES}
 use Rattle.model.specs.Denoted.{policyOf, ownerAt}
 use Rattle.model.specs.Good.{GoodMachine, GoodDrawing}
 use Rattle.model.specs.declared.Model.{Model}
 use Rattle.model.proofs.Good.{model-good}
-use Rattle.purge.specs.Sets.{pack, touches, marked, present}
+use Rattle.laws.specs.Sets.{pack}
+use Rattle.purge.specs.Sets.{touches, marked, present}
 use Rattle.purge.specs.Purged.{namesActions, Askable, Added, keptOf, result, written}
 use Rattle.model.specs.declared.Kind.{Kind}
 use Rattle.model.specs.declared.Kind.the-variants.{Plain, Intransitive}
@@ -38,7 +40,7 @@ pub box-small : (m : Model) (position : ℕ) (run : List ℕ) → Askable m posi
 box-small m position run h = let p = h .position-in in let g = model-good m .0 (h .good) .0 .sizes .boxes-most in omega arith
 
 module _ (m : Model) (position : ℕ) (run into : List ℕ) (target : ℕ) (h : Askable m position run)
-    (aimed : target ≡ pack (λ v. getD (m .arrows) (v * BOXES + position) false) 0 BOXES) where
+    (aimed : target ≡ pack (λ v. leads (m .arrows) v position) 0 BOXES) where
   good : GoodMachine (m .machine) × GoodDrawing m
   good = model-good m .0 (h .good)
 

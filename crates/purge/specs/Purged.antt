@@ -1,6 +1,6 @@
 -- What the purge call answers, and what its buffer then holds.
 use mathlib.Core.Path.{_≡_}
-use mathlib.Core.Bool.{Bool, true, false}
+use mathlib.Core.Bool.{Bool, true}
 use mathlib.Core.List.{List, _++_}
 use Prim.Native.Nat.{ℕ, _+_, _-_, _*_, _<_}
 use lib.Dec.{eqb, ltb, leb}
@@ -8,11 +8,12 @@ use lib.ListN.{length, getD, replicate}
 use Rattle.laws.specs.Choice.{both, choose}
 use Rattle.laws.specs.Range.{every}
 use Rattle.noninterference.specs.Purge as kinds
+use Rattle.model.specs.Arrows.{leads}
 use Rattle.model.specs.Limits.{RUN-ACTIONS, BOXES}
 use Rattle.model.specs.Denoted.{kindOf, ownerAt, policyOf}
 use Rattle.model.specs.Refused.{modelFits}
 use Rattle.model.specs.declared.Model.{Model}
-use Rattle.purge.specs.Sets.{pack}
+use Rattle.laws.specs.Sets.{pack}
 use Rattle.model.specs.declared.Kind.{Kind}
 use Rattle.model.specs.declared.Kind.the-variants.{Plain, Intransitive}
 use Rattle.purge.specs.declared.Answer.{Answer}
@@ -34,9 +35,9 @@ pub record Askable (m : Model) (position : ℕ) (run : List ℕ) : Type 0 where
   pub named : namesActions (m .machine .sizes .actions) run ≡ true
 
 -- the sets that a source adds: none in a plain purge, else the boxes that interfere with it
-abbrev pub Added : Kind → List Bool → List ℕ → Type 0
+abbrev pub Added : Kind → List ℕ → List ℕ → Type 0
 Added Plain arrows sets = (w : ℕ) → getD sets w 0 ≡ 0
-Added Intransitive arrows sets = (w : ℕ) → w < BOXES → getD sets w 0 ≡ pack (λ v. getD arrows (v * BOXES + w) false) 0 BOXES
+Added Intransitive arrows sets = (w : ℕ) → w < BOXES → getD sets w 0 ≡ pack (λ v. leads arrows v w) 0 BOXES
 
 -- the actions of the run that are kept
 unfoldable pub keptOf : Model → Kind → ℕ → List ℕ → List ℕ

@@ -1,20 +1,12 @@
--- Sets of boxes as numbers, and the walk over a run that holds one.
-use mathlib.Core.Bool.{Bool, cond}
+-- The walk over a run that holds a set of boxes.
+use mathlib.Core.Bool.{Bool}
 use mathlib.Core.List.{List, [], _∷_}
-use Prim.Native.Nat.{ℕ, zero, suc, _+_, _*_, _/_, _%_, _^_}
+use Prim.Native.Nat.{ℕ}
 use lib.Bits.{bitOr}
 use lib.Dec.{eqb}
 use lib.ListN.{getD}
 use Rattle.laws.specs.Choice.{choose}
-
--- v is in the set
-unfoldable pub has : ℕ → ℕ → Bool
-has set v = eqb (set / 2 ^ v % 2) 1
-
--- the set of those i, of n, for which v + i passes a test
-unfoldable pub pack : (ℕ → Bool) → ℕ → ℕ → ℕ
-pack test v zero = 0
-pack test v (suc n) = pack test (v + 1) n * 2 + cond (test v) 1 0
+use Rattle.laws.specs.Sets.{has}
 
 -- the boxes that interfere with a source, once the run is still to come: `into v` are those that interfere with v
 unfoldable pub touching : List ℕ → List ℕ → ℕ → List ℕ → ℕ

@@ -8,7 +8,9 @@ ghost use Prim.Native.Nat.{ℕ, _+_, _-_, _*_, _<_};
 ghost use lib.ListN.{length, getD, replicate};
 ghost use Rattle.model.specs.Limits.{BOXES};
 ghost use Rattle.purge.specs.Purged.{namesActions, keptOf, result, written, purgedOf, Added, Askable};
-ghost use Rattle.purge.specs.Sets.{has, pack, touching, marked, touches, present};
+ghost use Rattle.laws.specs.Sets.{pack};
+ghost use Rattle.model.specs.Arrows.{leads};
+ghost use Rattle.purge.specs.Sets.{touching, marked, touches, present};
 
 pub enum Answer {
     Kept { count: usize },
@@ -22,16 +24,6 @@ fn wide(x: u8) -> usize
     ensures { λ r. ⌜ r ≡ x ⌝ }
 {
     x as usize
-}
-
-// Whether box v is in the set.
-fn contains(set: u32, v: usize) -> bool
-    ensures { λ r. ⌜ r ≡ has set v ⌝ }
-{
-    if v < 32 {
-        return (set >> v) % 2 == 1;
-    }
-    false
 }
 
 // The set that stands at v, none beyond the end.
@@ -54,22 +46,22 @@ fn bit(flag: bool) -> u32
 }
 
 // The boxes that interfere with box u.
-fn interferers(arrows: &[bool; model::ARROWS], u: usize) -> u32
+fn interferers(arrows: &[u32; model::BOXES], u: usize) -> u32
     requires { ⌜ u < BOXES ⌝ }
-    ensures { λ r. ⌜ r ≡ pack (λ v. getD (now (arrows .entry)) (v * BOXES + u) false) 0 BOXES ⌝ }
+    ensures { λ r. ⌜ r ≡ pack (λ v. leads (now (arrows .entry)) v u) 0 BOXES ⌝ }
 {
     let mut set: u32 = 0;
     let mut v = model::BOXES;
     'boxes: while 0 < v {
         v -= 1;
-        set = set * 2 + bit(arrows[v * model::BOXES + u]);
+        set = set * 2 + bit(model::arrow(arrows, v, u));
     }
     set
 }
 
 // The boxes that interfere with each box.
-fn all_interferers(arrows: &[bool; model::ARROWS]) -> [u32; model::BOXES]
-    ensures { λ r. ⌜ ((u : ℕ) → u < BOXES → getD r u 0 ≡ pack (λ v. getD (now (arrows .entry)) (v * BOXES + u) false) 0 BOXES) ⌝ }
+fn all_interferers(arrows: &[u32; model::BOXES]) -> [u32; model::BOXES]
+    ensures { λ r. ⌜ ((u : ℕ) → u < BOXES → getD r u 0 ≡ pack (λ v. leads (now (arrows .entry)) v u) 0 BOXES) ⌝ }
 {
     let mut sets = [0u32; model::BOXES];
     'boxes: for u in 0..model::BOXES {
@@ -96,7 +88,7 @@ fn mark(
     }
     let set = mark(&run[1..], &mut kept[1..], owners, into, target);
     let v = model::owner(owners, wide(run[0]));
-    if contains(set, v) {
+    if model::contains(set, v) {
         kept[0] = run[0];
         return set | set_at(into, v);
     }
@@ -135,7 +127,7 @@ fn names_actions(run: &[u8], actions: usize) -> bool
 }
 
 // The sets that a source adds to those who may pass something on: none in a plain purge.
-fn added(kind: Kind, arrows: &[bool; model::ARROWS]) -> [u32; model::BOXES]
+fn added(kind: Kind, arrows: &[u32; model::BOXES]) -> [u32; model::BOXES]
     ensures { λ r. ⌜ Added kind (now (arrows .entry)) r ⌝ }
 {
     match kind {

@@ -1,13 +1,12 @@
 -- The register machine of the report's section 5.2. States are (u, v, sum): 0 (0,0,0), 1 (1,0,0), 2 (1,0,1), 3 (0,2,0), 4 (0,2,2),
 -- 5 (1,2,0), 6 (1,2,1), 7 (1,2,2), 8 (1,2,3). Boxes U, V, W and X have the ids 10, 20, 30 and 40, and an action each.
-use mathlib.Core.Bool.{Bool}
 use mathlib.Core.List.{List, [], _∷_}
 use Prim.Native.Nat.{ℕ}
 use Rattle.model.specs.Limits.{ACTIONS, BOXES, NEXT-ENTRIES, OUTPUT-ENTRIES, VIEW-ENTRIES}
 use Rattle.model.specs.Made.{sizesFrom, machineFrom, modelFrom}
 use Rattle.model.specs.declared.Machine.{Machine}
 use Rattle.model.specs.declared.Model.{Model}
-use Rattle.register.specs.Tables.{full, byState, byBox, selves, draws}
+use Rattle.register.specs.Tables.{full, byState, byBox, draws}
 
 -- the next states by U, V and W; X changes no state
 abbrev pub nextRows : List (List ℕ)
@@ -61,8 +60,8 @@ abbrev pub machine : Machine
 machine = machineFrom (sizesFrom 9 4 4 0) (full ACTIONS (0 ∷ 1 ∷ 2 ∷ 3 ∷ []))
 
 -- 10 to 30, 20 to 30, 30 to 40
-abbrev pub arrows : List Bool
-arrows = draws (selves 4) ((0, 2) ∷ (1, 2) ∷ (2, 3) ∷ [])
+abbrev pub arrows : List ℕ
+arrows = draws 4 ((0, 2) ∷ (1, 2) ∷ (2, 3) ∷ [])
 
 abbrev pub model : Model
 model = modelFrom machine (full BOXES (10 ∷ 20 ∷ 30 ∷ 40 ∷ [])) arrows

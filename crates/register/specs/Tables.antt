@@ -1,9 +1,9 @@
 -- Tables of full length from what is printed of a small model: zero beyond it.
-use mathlib.Core.Bool.{Bool, true, false}
 use mathlib.Core.List.{List, [], _∷_, _++_}
-use Prim.Native.Nat.{ℕ, zero, suc, _+_, _-_, _*_}
-use lib.ListN.{length, getD, set, replicate}
-use Rattle.model.specs.Limits.{BOXES, ARROWS}
+use Prim.Native.Nat.{ℕ, zero, suc, _-_}
+use lib.ListN.{length, getD, replicate}
+use Rattle.model.specs.Arrows.{drawn, selves}
+use Rattle.model.specs.Limits.{BOXES}
 
 -- a list made so long with zeros
 abbrev pub full : ℕ → List ℕ → List ℕ
@@ -25,10 +25,6 @@ byBox [] = []
 byBox (row ∷ rows) = row ++ byBox rows
 
 -- the self-arrows of so many boxes, and the arrows that are listed as pairs of positions
-unfoldable pub selves : ℕ → List Bool
-selves zero = replicate ARROWS false
-selves (suc n) = set (selves n) (n * BOXES + n) true
-
-unfoldable pub draws : List Bool → List (ℕ × ℕ) → List Bool
-draws arrows [] = arrows
-draws arrows (p ∷ ps) = set (draws arrows ps) (p .0 * BOXES + p .1) true
+unfoldable pub draws : ℕ → List (ℕ × ℕ) → List ℕ
+draws n [] = selves n (replicate BOXES 0)
+draws n (p ∷ ps) = drawn (p .0) (p .1) (draws n ps)

@@ -182,7 +182,7 @@ pub fn machine() -> Machine
     Machine::new(Sizes::new(9, 4, 4, 0), owners)
 }
 
-// Their ids, and the arrows 10 to 30, 20 to 30, 30 to 40 with the self-arrows.
+// Their ids, and the arrows 10 to 30, 20 to 30, 30 to 40 with the self-arrows: U and W are 1 and 4, V 2, X 8.
 pub fn model() -> Model
     ensures { λ r. ⌜ r ≡ specs.model ⌝ }
 {
@@ -191,13 +191,10 @@ pub fn model() -> Model
     ids[V] = 20;
     ids[W] = 30;
     ids[X] = 40;
-    let mut arrows = [false; model::ARROWS];
-    arrows[U * model::BOXES + U] = true;
-    arrows[U * model::BOXES + W] = true;
-    arrows[V * model::BOXES + V] = true;
-    arrows[V * model::BOXES + W] = true;
-    arrows[W * model::BOXES + W] = true;
-    arrows[W * model::BOXES + X] = true;
-    arrows[X * model::BOXES + X] = true;
+    let mut arrows = [0u32; model::BOXES];
+    arrows[U] = 5;
+    arrows[V] = 6;
+    arrows[W] = 12;
+    arrows[X] = 8;
     Model::new(machine(), ids, arrows)
 }

@@ -1,13 +1,14 @@
 -- What a loop over `flow` and `both` lines knows. Assumes nothing.
-use Prim.Native.Nat.{ℕ, zero, suc, _+_, _-_, _<_, _≤_}
+use Prim.Native.Nat.{ℕ, _+_, _-_, _<_, _≤_}
 use mathlib.Core.Path.{_≡_, refl, sym, ap, _∙_}
 use mathlib.Core.List.{List, _∷_}
-use mathlib.Core.Bool.{Bool, true}
 use mathlib.Core.Logic.{inl, inr}
 use native.Mathlib.Omega.{arith}
 use native.Mathlib.Numerals.{add-one}
-use lib.ListN.{length, take, drop, length-set}
-use Rattle.model.specs.Limits.{ARROWS}
+use lib.ListN.{length, take, drop}
+use Rattle.model.specs.Limits.{BOXES}
+use Rattle.model.specs.Arrows.{drawn}
+use Rattle.model.proofs.Arrows.{drawn-length}
 use Rattle.text.specs.Lines.{lines, endOf, lineAt, Ended}
 use Rattle.text.proofs.Parts.{Found, line-next, no-lines}
 use Rattle.sheet.specs.declared.Arrow.{Arrow}
@@ -17,21 +18,16 @@ use Rattle.sheet.specs.declared.Flow.the-variants.{One, Two, Not, Other}
 use Rattle.sheet.specs.Records.{flowLine, onFlow}
 use Rattle.sheet.specs.OnePass.{flowAt}
 use Rattle.sheet.proofs.Good.{flow-good}
-use Rattle.sheet.specs.Phases.{Got, got, refused, drawn, selves, flows}
-
-pub selves-length : (k : ℕ) (arrows : List Bool) → length (selves k arrows) ≡ length arrows
-unfolding selves
-selves-length zero arrows = refl
-selves-length (suc k) arrows = length-set (selves k arrows) _ true ∙ selves-length k arrows
+use Rattle.sheet.specs.Phases.{Got, got, refused, flows}
 
 -- what is left at the place, with the arrows so far, gives what the whole run gives
-pub record Flowing (t ids : List ℕ) (all : Got (List Bool)) (arrows : List Bool) (at n : ℕ) : Type 0 where
+pub record Flowing (t ids : List ℕ) (all : Got (List ℕ)) (arrows : List ℕ) (at n : ℕ) : Type 0 where
   pub closed : Ended t
   pub few : n ≤ at + 1
-  pub room : length arrows ≡ ARROWS
+  pub room : length arrows ≡ BOXES
   pub rest : flows ids arrows (lines (drop at t)) n ≡ all
 
-module _ {t ids : List ℕ} {all : Got (List Bool)} {arrows : List Bool} {at n : ℕ} (p : Flowing t ids all arrows at n) where
+module _ {t ids : List ℕ} {all : Got (List ℕ)} {arrows : List ℕ} {at n : ℕ} (p : Flowing t ids all arrows at n) where
   pub over : length t ≤ at → got arrows (lines (drop at t)) n ≡ all
   unfolding flows
   over h = rw (no-lines t at h) (rw (no-lines t at h) at (p .rest))
@@ -62,10 +58,10 @@ module _ {t ids : List ℕ} {all : Got (List Bool)} {arrows : List Bool} {at n :
     bad x e = (rw e at step)
 
     pub one : (v u : ℕ) → flowLine ids this ≡ One v u → Flowing t ids all (drawn v u arrows) next (n + 1)
-    one v u e = record { closed = p .closed; few = omega (arith, q .next-is, p .few); room = simp length-set (p .room); rest = (rw e at step) }
+    one v u e = record { closed = p .closed; few = omega (arith, q .next-is, p .few); room = drawn-length v u arrows ∙ p .room; rest = (rw e at step) }
 
     pub two : (v u : ℕ) → flowLine ids this ≡ Two v u → Flowing t ids all (drawn u v (drawn v u arrows)) next (n + 1)
-    two v u e = record { closed = p .closed; few = omega (arith, q .next-is, p .few); room = simp length-set (p .room); rest = (rw e at step) }
+    two v u e = record { closed = p .closed; few = omega (arith, q .next-is, p .few); room = drawn-length u v (drawn v u arrows) ∙ drawn-length v u arrows ∙ p .room; rest = (rw e at step) }
 
 -- what the answer at a place says of the line there, and where the next one is
 abbrev pub asFlow : Arrow → Flow
@@ -98,7 +94,7 @@ place-is ids t at x e = sym (ap (placeIn (endOf 10 t at + 1)) e) ∙ go (flowLin
     go (Not e) = refl
     go Other = refl
 
-module _ {t ids : List ℕ} {all : Got (List Bool)} {arrows : List Bool} {at n : ℕ} (p : Flowing t ids all arrows at n) (h : at < length t) where
+module _ {t ids : List ℕ} {all : Got (List ℕ)} {arrows : List ℕ} {at n : ℕ} (p : Flowing t ids all arrows at n) (h : at < length t) where
   here : Found t at at (endOf 10 t at) (endOf 10 t at + 1)
   here = record { within = h; start-is = refl; end-is = refl; next-is = refl }
 

@@ -36,5 +36,5 @@ module _ (t next outputs views : List ℕ) where
         pub a-refusal : {e n : ℕ} (a : Answer) (x : Parts) (s : Sheet) (next′ outputs′ views′ : List ℕ) → readingOf a x ≡ sheetText t → a ≡ Refused e n → s ≡ refusedAs e n → next′ ≡ zeros NEXT-ENTRIES → outputs′ ≡ zeros OUTPUT-ENTRIES → views′ ≡ zeros VIEW-ENTRIES → outcome s next′ outputs′ views′ ≡ read t next outputs views
         a-refusal a x s next′ outputs′ views′ h k l m o u = rw (← right, ← h, k, l, m, o, u)
 
-        pub a-model : {z : Sizes} (a : Answer) (ids owners : List ℕ) (arrows : List Bool) (next′ outputs′ views′ : List ℕ) → readingOf a (partsAs ids owners (drawnAs (steps next′ outputs′) arrows views′)) ≡ sheetText t → a ≡ Model z → outcome (sheetAs a ids owners arrows) next′ outputs′ views′ ≡ read t next outputs views
+        pub a-model : {z : Sizes} (a : Answer) (ids owners : List ℕ) (arrows : List ℕ) (next′ outputs′ views′ : List ℕ) → readingOf a (partsAs ids owners (drawnAs (steps next′ outputs′) arrows views′)) ≡ sheetText t → a ≡ Model z → outcome (sheetAs a ids owners arrows) next′ outputs′ views′ ≡ read t next outputs views
         a-model a ids owners arrows next′ outputs′ views′ h m = rw (← right, ← h, m)

@@ -2,22 +2,27 @@
 use Prim.Native.Nat.{ℕ, zero, suc, _+_, _*_, _/_, _%_, _<_, _≤_}
 use mathlib.Core.Path.{_≡_, refl, sym, ap, _∙_}
 use mathlib.Core.List.{List, [], _∷_}
-use mathlib.Core.Bool.{Bool, true, false}
-use mathlib.Core.Logic.{inl, inr}
+use mathlib.Core.Bool.{true, false}
+use mathlib.Core.Logic.{inl, inr, ⊎-elim}
 use native.Mathlib.Omega.{arith}
 use native.Mathlib.Decide.{decLt}
 use native.Mathlib.Nat.{mul-le-mul}
-use borrow.Author.Tests.{ltb-false}
+use borrow.Author.Tests.{ltb-true, ltb-false, lt-ltb, eq-eqb, eqb-true}
 use lib.ListN.{length, getD, take, set, replicate, length-set, length-replicate, getD-replicate, List·getD-eq-default}
 use lib.Seq.{getD-set-same, getD-set-other, getD-take, length-take-le}
+use Rattle.laws.specs.Choice.{both, either}
+use Rattle.laws.proofs.Tests.{both-of, both-true, either-true, either-right}
+use lib.Dec.{eqb}
+use Rattle.model.specs.Arrows.{leads, drawn, selves}
+use Rattle.model.proofs.Arrows.{drawn-length, drawn-at, selves-length, selves-at}
 use Rattle.model.specs.Good.{GoodSizes}
 use Rattle.model.specs.declared.Sizes.{Sizes}
-use Rattle.model.specs.Limits.{STATES, ACTIONS, BOXES, ARROWS, NEXT-ENTRIES, OUTPUT-ENTRIES, VIEW-ENTRIES, LARGEST-ID, LARGEST-NUMBER}
+use Rattle.model.specs.Limits.{STATES, ACTIONS, BOXES, NEXT-ENTRIES, OUTPUT-ENTRIES, VIEW-ENTRIES, LARGEST-ID, LARGEST-NUMBER}
 use Rattle.text.proofs.Parts.{before-hit}
 use Rattle.sheet.specs.declared.Flow.{Flow}
 use Rattle.sheet.specs.declared.Flow.the-variants.{One, Two, Not, Other}
 use Rattle.sheet.specs.Records.{position, known, boxLine, actLine, goLine, viewLine, flowLine, onFlow}
-use Rattle.sheet.specs.Phases.{got, refused, boxes, acts, goes, Steps, steps, drawn, selves, flows, views}
+use Rattle.sheet.specs.Phases.{got, refused, boxes, acts, goes, Steps, steps, flows, views}
 use Rattle.sheet.specs.Reading.{zeros, Drawn, drawnAs, drawing, Parts, partsAs, parts, model, sheetText}
 use Rattle.sheet.proofs.Good.{sheet-good, box-good, act-good, go-good, view-good, flow-good}
 use Rattle.sheet.proofs.Inside.{first-of, kept, inside, no-got}
@@ -114,75 +119,42 @@ views-good ids states c ls n h =
     (length ids * states) 0 (zeros VIEW-ENTRIES) ls n (omega arith) (filled-none (zeros VIEW-ENTRIES) (zeros-length VIEW-ENTRIES) (zero-there VIEW-ENTRIES)) h
 
 -- arrows: the self-arrows of the first n boxes, and no box beyond the first m
-pub record Arrowed (n m : ℕ) (arrows : List Bool) : Type 0 where
-  pub room : length arrows ≡ ARROWS
-  pub selves : (i : ℕ) → i < n → getD arrows (i * BOXES + i) false ≡ true
-  pub within : (v u : ℕ) → v < BOXES → u < BOXES → getD arrows (v * BOXES + u) false ≡ true → (v < m) × (u < m)
+pub record Arrowed (n m : ℕ) (arrows : List ℕ) : Type 0 where
+  pub room : length arrows ≡ BOXES
+  pub selves : (i : ℕ) → i < n → leads arrows i i ≡ true
+  pub within : (v u : ℕ) → v < BOXES → leads arrows v u ≡ true → (v < m) × (u < m)
 
-module _ {n m : ℕ} {arrows : List Bool} (p : Arrowed n m arrows) (v u : ℕ) (h : v < m) (g : u < m) (few : m ≤ BOXES) where
-  abbrev here : ℕ
-  here = v * BOXES + u
-
-  same : getD (set arrows here true) here false ≡ true
-  same = getD-set-same arrows here true false (omega (arith, p .room))
-
-  other : (i : ℕ) → (i ≡ here → ⊥) → getD (set arrows here true) i false ≡ getD arrows i false
-  other i z = getD-set-other arrows here i true false z
-
-  pub arrow-more : Arrowed n m (drawn v u arrows)
-  arrow-more = record { room = length-set arrows here true ∙ p .room; selves = own; within = inner }
-    where
-      own : (i : ℕ) → i < n → getD (drawn v u arrows) (i * BOXES + i) false ≡ true
-      own i l = go (decLt (i * BOXES + i) here) (decLt here (i * BOXES + i))
-        where
-          go : Dec (i * BOXES + i < here) → Dec (here < i * BOXES + i) → getD (drawn v u arrows) (i * BOXES + i) false ≡ true
-          go (yes a) b = other (i * BOXES + i) (λ e. omega arith) ∙ p .selves i l
-          go (no a) (yes b) = other (i * BOXES + i) (λ e. omega arith) ∙ p .selves i l
-          go (no a) (no b) = let e : i * BOXES + i ≡ here = omega arith in rw e same
-
-      inner : (x y : ℕ) → x < BOXES → y < BOXES → getD (drawn v u arrows) (x * BOXES + y) false ≡ true → (x < m) × (y < m)
-      inner x y a b t = go (decLt (x * BOXES + y) here) (decLt here (x * BOXES + y))
-        where
-          go : Dec (x * BOXES + y < here) → Dec (here < x * BOXES + y) → (x < m) × (y < m)
-          go (yes c) d = p .within x y a b (sym (other (x * BOXES + y) (λ e. omega arith)) ∙ t)
-          go (no c) (yes d) = p .within x y a b (sym (other (x * BOXES + y) (λ e. omega arith)) ∙ t)
-          go (no c) (no d) = (omega arith, omega arith)
-
--- one self-arrow more
-self-more : (k : ℕ) (arrows : List Bool) → k < BOXES → Arrowed k k arrows → Arrowed (suc k) (suc k) (drawn k k arrows)
-self-more k arrows h p =
-    let q : Arrowed k (suc k) arrows = record { room = p .room; selves = p .selves; within = λ v u a b t. let w = p .within v u a b t in (omega (arith, w), omega (arith, w)) } in
-    let r = arrow-more q k k (omega arith) (omega arith) h in
-    record { room = r .room; selves = own r; within = r .within }
+pub arrow-more : {n m : ℕ} {arrows : List ℕ} → Arrowed n m arrows → (v u : ℕ) → v < m → u < m → m ≤ BOXES → Arrowed n m (drawn v u arrows)
+arrow-more {n} {m} {arrows} p v u h g few = record {
+  room = drawn-length v u arrows ∙ p .room;
+  selves = λ i l. at i i ∙ either-right _ (p .selves i l);
+  within = λ x y a t. ⊎-elim (λ e. inner x y (both-true _ _ e)) (p .within x y a) (either-true _ _ (sym (at x y) ∙ t));
+}
   where
-    own : Arrowed k (suc k) (drawn k k arrows) → (i : ℕ) → i < suc k → getD (drawn k k arrows) (i * BOXES + i) false ≡ true
-    own r i l = go (decLt i k)
-      where
-        go : Dec (i < k) → getD (drawn k k arrows) (i * BOXES + i) false ≡ true
-        go (yes m) = r .selves i m
-        go (no m) =
-            let e : i ≡ k = omega arith in
-            rw e (getD-set-same arrows (k * BOXES + k) true false (omega (arith, p .room)))
+    at : (x y : ℕ) → leads (drawn v u arrows) x y ≡ either (both (eqb v x) (eqb u y)) (leads arrows x y)
+    at x y = drawn-at v u arrows (omega (arith, p .room)) x y
 
-no-arrow : (i : ℕ) → getD (replicate ARROWS false) i false ≡ false
-no-arrow i = go (decLt i ARROWS)
-  where
-    go : Dec (i < ARROWS) → getD (replicate ARROWS false) i false ≡ false
-    go (yes h) = getD-replicate ARROWS i false false h
-    go (no h) = List·getD-eq-default (replicate ARROWS false) false {n = i} (omega (arith, length-replicate ARROWS false))
+    inner : (x y : ℕ) → (eqb v x ≡ true) × (eqb u y ≡ true) → (x < m) × (y < m)
+    inner x y e = let i : v ≡ x = eqb-true v x (e .0) in let j : u ≡ y = eqb-true u y (e .1) in (omega arith, omega arith)
 
-selves-good : (k : ℕ) → k ≤ BOXES → Arrowed k k (selves k (replicate ARROWS false))
-unfolding selves
-selves-good zero h = record { room = refl; selves = λ i g. absurd (omega arith); within = λ v u a b t. (let z : _≡_ {A = ℕ} 0 1 = cc (no-arrow (v * BOXES + u)) in absurd (omega arith)) }
-selves-good (suc k) h = self-more k (selves k (replicate ARROWS false)) (omega arith) (selves-good k (omega arith))
+selves-good : (k : ℕ) → k ≤ BOXES → Arrowed k k (selves k (replicate BOXES 0))
+selves-good k h = record {
+  room = selves-length k (replicate BOXES 0) ∙ length-replicate {A = ℕ} BOXES 0;
+  selves = λ i l. selves-at k BOXES h i i ∙ both-of (lt-ltb i k l) (eq-eqb i i refl);
+  within = λ v u a t.
+      let e = both-true _ _ (sym (selves-at k BOXES h v u) ∙ t) in
+      let l = ltb-true v k (e .0) in
+      let q : v ≡ u = eqb-true v u (e .1) in
+      (l, omega arith);
+}
 
-arrows-kept : (ids : List ℕ) → length ids ≤ BOXES → (n : ℕ) (arrows : List Bool) (ls : List (List ℕ)) (k : ℕ) {arrows′ : List Bool} {ls′ : List (List ℕ)} {k′ : ℕ}
+arrows-kept : (ids : List ℕ) → length ids ≤ BOXES → (n : ℕ) (arrows : List ℕ) (ls : List (List ℕ)) (k : ℕ) {arrows′ : List ℕ} {ls′ : List (List ℕ)} {k′ : ℕ}
     → Arrowed n (length ids) arrows → flows ids arrows ls k ≡ got arrows′ ls′ k′ → Arrowed n (length ids) arrows′
 unfolding flows
 arrows-kept ids c n arrows [] k {arrows′} p h = let e : arrows ≡ arrows′ = cc in rw (← e) p
 arrows-kept ids c n arrows (l ∷ ls) k {arrows′} {ls′} {k′} p h = go (λ a p h. arrows-kept ids c n a ls (suc k) p h) (flowLine ids l) refl h
   where
-    go : ((a : List Bool) → Arrowed n (length ids) a → flows ids a ls (suc k) ≡ got arrows′ ls′ k′ → Arrowed n (length ids) arrows′)
+    go : ((a : List ℕ) → Arrowed n (length ids) a → flows ids a ls (suc k) ≡ got arrows′ ls′ k′ → Arrowed n (length ids) arrows′)
         → (f : Flow) → flowLine ids l ≡ f
         → onFlow f (λ v u. flows ids (drawn v u arrows) ls (suc k)) (λ v u. flows ids (drawn u v (drawn v u arrows)) ls (suc k)) (λ e. refused e k) (got arrows (l ∷ ls) k) ≡ got arrows′ ls′ k′
         → Arrowed n (length ids) arrows′
@@ -191,8 +163,8 @@ arrows-kept ids c n arrows (l ∷ ls) k {arrows′} {ls′} {k′} p h = go (λ 
     go r (Not e) q h = no-got h
     go r Other q h = let e : arrows ≡ arrows′ = cc in rw (← e) p
 
-pub arrows-good : (ids : List ℕ) → length ids ≤ BOXES → (ls : List (List ℕ)) (k : ℕ) {arrows : List Bool} {ls′ : List (List ℕ)} {k′ : ℕ} → flows ids (selves (length ids) (replicate ARROWS false)) ls k ≡ got arrows ls′ k′ → Arrowed (length ids) (length ids) arrows
-arrows-good ids c ls k h = arrows-kept ids c (length ids) (selves (length ids) (replicate ARROWS false)) ls k (selves-good (length ids) c) h
+pub arrows-good : (ids : List ℕ) → length ids ≤ BOXES → (ls : List (List ℕ)) (k : ℕ) {arrows : List ℕ} {ls′ : List (List ℕ)} {k′ : ℕ} → flows ids (selves (length ids) (replicate BOXES 0)) ls k ≡ got arrows ls′ k′ → Arrowed (length ids) (length ids) arrows
+arrows-good ids c ls k h = arrows-kept ids c (length ids) (selves (length ids) (replicate BOXES 0)) ls k (selves-good (length ids) c) h
 
 -- the tables and the arrows
 pub record SoundDrawn (states actions count : ℕ) (d : Drawn) : Type 0 where
@@ -205,7 +177,7 @@ drawn-good : (states actions : ℕ) (ids : List ℕ) (ls : List (List ℕ)) (n :
 unfolding drawing
 drawn-good states actions ids ls n {d} s a c h =
     let g = first-of (goes states actions (steps (zeros NEXT-ENTRIES) (zeros OUTPUT-ENTRIES)) ls n) h in
-    let f = first-of (flows ids (selves (length ids) (replicate ARROWS false)) (g .left) (g .number)) (g .then) in
+    let f = first-of (flows ids (selves (length ids) (replicate BOXES 0)) (g .left) (g .number)) (g .then) in
     let v = first-of (views ids states (zeros VIEW-ENTRIES) (f .left) (f .number)) (f .then) in
     let e : drawnAs (g .what) (f .what) (v .what) ≡ d = cc (v .then) in
     rw (← e) (record {

@@ -8,17 +8,18 @@ use native.Mathlib.Nat.{mul-le-mul}
 use lib.ListN.{length, getD, take, replicate}
 use lib.Seq.{length-take-le}
 use lib.Dec.{eqb}
-use Rattle.model.specs.Limits.{BOXES, ARROWS, NEXT-ENTRIES, OUTPUT-ENTRIES, VIEW-ENTRIES, SHEET-BYTES}
+use Rattle.model.specs.Limits.{BOXES, NEXT-ENTRIES, OUTPUT-ENTRIES, VIEW-ENTRIES, SHEET-BYTES}
 use Rattle.model.specs.Made.{sizesFrom}
 use Rattle.model.specs.Good.{GoodSizes}
 use Rattle.model.specs.declared.Sizes.{Sizes}
 use Rattle.text.specs.Lines.{lines}
+use Rattle.model.specs.Arrows.{selves}
 use Rattle.sheet.specs.declared.Record.{Record}
 use Rattle.sheet.specs.declared.Record.the-variants.{Numbers, Not}
 use Rattle.sheet.specs.declared.Due.the-variants as due
 use Rattle.sheet.specs.Numbers.{onRecord}
 use Rattle.sheet.specs.Records.{sized, sheetLine}
-use Rattle.sheet.specs.Phases.{Got, got, refused, Steps, steps, boxes, acts, goes, selves, flows, views}
+use Rattle.sheet.specs.Phases.{Got, got, refused, Steps, steps, boxes, acts, goes, flows, views}
 use Rattle.sheet.specs.Reading.{zeros, onGot, drawnAs, drawing, Parts, partsAs, parts, Reading, model, refusal, finish, sheetLines, sheetText}
 use Rattle.sheet.specs.Table.{byRows}
 use Rattle.sheet.specs.Meaning.{atSheet, atEnd, boxesFrom, goesFrom, after, RefusedText, whole, byLine}
@@ -49,7 +50,7 @@ module _ (z : Sizes) (ids : List ℕ) (some : 0 < length ids * z .states) (t : S
   unfolding drawing
   drawing-walk ls n =
       goes-walk z ids t ls n ∙ chain (goes (z .states) (z .actions) t ls n) _ _ (λ t ls n _.
-      flows-walk z ids some (selves (length ids) (replicate ARROWS false)) ls n ∙ chain (flows ids (selves (length ids) (replicate ARROWS false)) ls n) _ _ (λ arrows ls n _.
+      flows-walk z ids some (selves (length ids) (replicate BOXES 0)) ls n ∙ chain (flows ids (selves (length ids) (replicate BOXES 0)) ls n) _ _ (λ arrows ls n _.
       views-walk z ids v ls n ∙ chain (views ids (z .states) v ls n) _ _ (λ v ls n _. at-end (drawnAs t arrows v) ls n)))
 
 -- what was read does not matter

@@ -18,11 +18,11 @@ use Rattle.sheet.proofs.Sound.{Sound, sound}
 pub one-outcome : {s s′ : Sheet} {a a′ b b′ c c′ : List ℕ} → outcome s a b c ≡ outcome s′ a′ b′ c′ → (s ≡ s′) × (a ≡ a′) × (b ≡ b′) × (c ≡ c′)
 one-outcome h = (ap (λ (o : Outcome). o .sheet) h, ap (λ (o : Outcome). o .next) h, ap (λ (o : Outcome). o .outputs) h, ap (λ (o : Outcome). o .views) h)
 
-abbrev goodAs : Sizes → List ℕ → List ℕ → List Bool → List ℕ → List ℕ → List ℕ → Outcome
+abbrev goodAs : Sizes → List ℕ → List ℕ → List ℕ → List ℕ → List ℕ → List ℕ → Outcome
 goodAs z ids owners arrows next outputs views =
     outcome (sheetAs (Model z) ids owners arrows) next outputs views
 
-module _ {z : Sizes} {ids owners : List ℕ} {arrows : List Bool} {next outputs views : List ℕ} where
+module _ {z : Sizes} {ids owners : List ℕ} {arrows : List ℕ} {next outputs views : List ℕ} where
   refused-is-none : {A : Type 0} {e n : ℕ} {a b c : List ℕ} → outcome (refusedAs e n) a b c ≡ goodAs z ids owners arrows next outputs views → A
   refused-is-none {A} {e} {n} h =
       let q : Refused e n ≡ Model z = ap (λ (o : Outcome). o .sheet .answer) h in

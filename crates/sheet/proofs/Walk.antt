@@ -9,6 +9,7 @@ use lib.ListN.{length, getD, set, take, replicate}
 use Rattle.model.specs.Limits.{BOXES, ACTIONS}
 use Rattle.model.specs.declared.Sizes.{Sizes}
 use Rattle.text.specs.Lines.{same}
+use Rattle.model.specs.Arrows.{drawn}
 use Rattle.sheet.specs.declared.Record.{Record}
 use Rattle.sheet.specs.declared.Record.the-variants.{Numbers, Not}
 use Rattle.sheet.specs.declared.Due.the-variants as due
@@ -16,7 +17,7 @@ use Rattle.sheet.specs.declared.Flow.the-variants as flow
 use Rattle.sheet.specs.Words as words
 use Rattle.sheet.specs.Numbers.{onRecord, word}
 use Rattle.sheet.specs.Records.{boxLine, actLine, goLine, viewLine, arrowLine, flowLine, onFlow}
-use Rattle.sheet.specs.Phases.{Got, got, refused, phase, boxes, acts, Steps, steps, goes, drawn, flows, views}
+use Rattle.sheet.specs.Phases.{Got, got, refused, phase, boxes, acts, Steps, steps, goes, flows, views}
 use Rattle.sheet.specs.Table.{Row, byRows}
 use Rattle.sheet.specs.Meaning.{Situation, atFlow, atEnd, viewsFrom, goesFrom, actsFrom, boxesFrom, isArrow, after, complete}
 use Rattle.sheet.proofs.ByRows.{by-rows, arrow-by-rows}
@@ -114,7 +115,7 @@ module _ (z : Sizes) where
 
     -- arrows, as many as there are, and then the first view
     module _ (some : 0 < length ids * z .states) where
-      flow-step : (w l : List ℕ) (ls : List (List ℕ)) (n : ℕ) (f : ℕ → ℕ → Got (List Bool))
+      flow-step : (w l : List ℕ) (ls : List (List ℕ)) (n : ℕ) (f : ℕ → ℕ → Got (List ℕ))
           → isArrow l ≡ true → lineIn (atFlow z ids) l ≡ arrowLine w ids l
           → ((v u : ℕ) → walk (atFlow z ids) ls (suc n) ≡ onJudged (f v u) (λ _ ls n. walk (viewsFrom z ids 0) ls n))
           → walk (atFlow z ids) (l ∷ ls) n ≡ onJudged (onRecord (arrowLine w ids l) (λ v u _ _. f v u) (λ e. refused e n)) (λ _ ls n. walk (viewsFrom z ids 0) ls n)
@@ -126,23 +127,23 @@ module _ (z : Sizes) where
           go (Numbers a b c d) = rw q (i a b)
           go (Not x) = refl
 
-      on-one : (r : Record) (f g : ℕ → ℕ → Got (List Bool)) (h : ℕ → Got (List Bool)) (o : Got (List Bool)) → onFlow (onRecord r (λ v u _ _. flow.One v u) flow.Not) f g h o ≡ onRecord r (λ v u _ _. f v u) h
+      on-one : (r : Record) (f g : ℕ → ℕ → Got (List ℕ)) (h : ℕ → Got (List ℕ)) (o : Got (List ℕ)) → onFlow (onRecord r (λ v u _ _. flow.One v u) flow.Not) f g h o ≡ onRecord r (λ v u _ _. f v u) h
       on-one (Numbers a b c d) f g h o = refl
       on-one (Not x) f g h o = refl
 
-      on-two : (r : Record) (f g : ℕ → ℕ → Got (List Bool)) (h : ℕ → Got (List Bool)) (o : Got (List Bool)) → onFlow (onRecord r (λ v u _ _. flow.Two v u) flow.Not) f g h o ≡ onRecord r (λ v u _ _. g v u) h
+      on-two : (r : Record) (f g : ℕ → ℕ → Got (List ℕ)) (h : ℕ → Got (List ℕ)) (o : Got (List ℕ)) → onFlow (onRecord r (λ v u _ _. flow.Two v u) flow.Not) f g h o ≡ onRecord r (λ v u _ _. g v u) h
       on-two (Numbers a b c d) f g h o = refl
       on-two (Not x) f g h o = refl
 
-      flows-one : (arrows : List Bool) (l : List ℕ) (ls : List (List ℕ)) (n : ℕ) → same (word l) words.flow ≡ true → onRecord (arrowLine words.flow ids l) (λ v u _ _. flows ids (drawn v u arrows) ls (suc n)) (λ e. refused e n) ≡ flows ids arrows (l ∷ ls) n
+      flows-one : (arrows : List ℕ) (l : List ℕ) (ls : List (List ℕ)) (n : ℕ) → same (word l) words.flow ≡ true → onRecord (arrowLine words.flow ids l) (λ v u _ _. flows ids (drawn v u arrows) ls (suc n)) (λ e. refused e n) ≡ flows ids arrows (l ∷ ls) n
       unfolding flows flowLine
       flows-one arrows l ls n p = sym (rw p (on-one (arrowLine words.flow ids l) _ _ _ _))
 
-      flows-two : (arrows : List Bool) (l : List ℕ) (ls : List (List ℕ)) (n : ℕ) → same (word l) words.flow ≡ false → same (word l) words.both ≡ true → onRecord (arrowLine words.both ids l) (λ v u _ _. flows ids (drawn u v (drawn v u arrows)) ls (suc n)) (λ e. refused e n) ≡ flows ids arrows (l ∷ ls) n
+      flows-two : (arrows : List ℕ) (l : List ℕ) (ls : List (List ℕ)) (n : ℕ) → same (word l) words.flow ≡ false → same (word l) words.both ≡ true → onRecord (arrowLine words.both ids l) (λ v u _ _. flows ids (drawn u v (drawn v u arrows)) ls (suc n)) (λ e. refused e n) ≡ flows ids arrows (l ∷ ls) n
       unfolding flows flowLine
       flows-two arrows l ls n p q = sym (rw (p, q) (on-two (arrowLine words.both ids l) _ _ _ _))
 
-      flows-stop : (arrows : List Bool) (l : List ℕ) (ls : List (List ℕ)) (n : ℕ) → same (word l) words.flow ≡ false → same (word l) words.both ≡ false → got arrows (l ∷ ls) n ≡ flows ids arrows (l ∷ ls) n
+      flows-stop : (arrows : List ℕ) (l : List ℕ) (ls : List (List ℕ)) (n : ℕ) → same (word l) words.flow ≡ false → same (word l) words.both ≡ false → got arrows (l ∷ ls) n ≡ flows ids arrows (l ∷ ls) n
       unfolding flows flowLine
       flows-stop arrows l ls n p q = sym (rw (p, q))
 
@@ -152,20 +153,20 @@ module _ (z : Sizes) where
           ap (λ (r : Record). onRecord r (λ a b c d. walk (after (atFlow z ids) l a b c d) ls (suc n)) (λ e. refusedAt e n)) (pick-view (same (word l) words.flow) (same (word l) words.both) _ _ _ _ _ p q)
           ∙ rw (lt-ltb 0 (length ids * z .states) some, pick-after (same (word l) words.flow) (same (word l) words.both) (atFlow z ids) (viewsFrom z ids 1) p q)
 
-      pub flows-walk : (arrows : List Bool) (ls : List (List ℕ)) (n : ℕ) → walk (atFlow z ids) ls n ≡ onJudged (flows ids arrows ls n) (λ _ ls n. walk (viewsFrom z ids 0) ls n)
+      pub flows-walk : (arrows : List ℕ) (ls : List (List ℕ)) (n : ℕ) → walk (atFlow z ids) ls n ≡ onJudged (flows ids arrows ls n) (λ _ ls n. walk (viewsFrom z ids 0) ls n)
       unfolding flows walk
       flows-walk arrows [] n = rw (lt-ltb 0 (length ids * z .states) some)
       flows-walk arrows (l ∷ ls) n = go (same (word l) words.flow) refl (same (word l) words.both) refl (λ a. flows-walk a ls (suc n))
         where
           go : (s : Bool) → same (word l) words.flow ≡ s → (t : Bool) → same (word l) words.both ≡ t
-              → ((a : List Bool) → walk (atFlow z ids) ls (suc n) ≡ onJudged (flows ids a ls (suc n)) (λ _ ls n. walk (viewsFrom z ids 0) ls n))
+              → ((a : List ℕ) → walk (atFlow z ids) ls (suc n) ≡ onJudged (flows ids a ls (suc n)) (λ _ ls n. walk (viewsFrom z ids 0) ls n))
               → walk (atFlow z ids) (l ∷ ls) n ≡ onJudged (flows ids arrows (l ∷ ls) n) (λ _ ls n. walk (viewsFrom z ids 0) ls n)
           go true p t q i =
               flow-step words.flow l ls n (λ v u. flows ids (drawn v u arrows) ls (suc n)) (pick-arrow _ _ p) (pick-flow (same (word l) words.flow) (same (word l) words.both) _ _ _ _ _ p ∙ sym (arrow-by-rows words.flow ids l)) (λ v u. i (drawn v u arrows))
-              ∙ ap (λ (g : Got (List Bool)). onJudged g (λ _ ls n. walk (viewsFrom z ids 0) ls n)) (flows-one arrows l ls n p)
+              ∙ ap (λ (g : Got (List ℕ)). onJudged g (λ _ ls n. walk (viewsFrom z ids 0) ls n)) (flows-one arrows l ls n p)
           go false p true q i =
               flow-step words.both l ls n (λ v u. flows ids (drawn u v (drawn v u arrows)) ls (suc n)) (pick-second _ _ p q) (pick-both (same (word l) words.flow) (same (word l) words.both) _ _ _ _ _ p q ∙ sym (arrow-by-rows words.both ids l)) (λ v u. i (drawn u v (drawn v u arrows)))
-              ∙ ap (λ (g : Got (List Bool)). onJudged g (λ _ ls n. walk (viewsFrom z ids 0) ls n)) (flows-two arrows l ls n p q)
+              ∙ ap (λ (g : Got (List ℕ)). onJudged g (λ _ ls n. walk (viewsFrom z ids 0) ls n)) (flows-two arrows l ls n p q)
           go false p false q i =
               view-step l ls n p q
-              ∙ ap (λ (g : Got (List Bool)). onJudged g (λ _ ls n. walk (viewsFrom z ids 0) ls n)) (flows-stop arrows l ls n p q)
+              ∙ ap (λ (g : Got (List ℕ)). onJudged g (λ _ ls n. walk (viewsFrom z ids 0) ls n)) (flows-stop arrows l ls n p q)

@@ -1,9 +1,10 @@
 -- Runs of lines of one kind.
 use Prim.Native.Nat.{ℕ, zero, suc, _+_, _*_, _/_, _%_, _≤_}
 use mathlib.Core.List.{List, [], _∷_}
-use mathlib.Core.Bool.{Bool, true, cond}
+use mathlib.Core.Bool.{cond}
 use lib.ListN.{length, getD, set, take, drop, replicate}
 use lib.Dec.{ltb}
+use Rattle.model.specs.Arrows.{drawn}
 use Rattle.model.specs.Limits.{ACTIONS, BOXES}
 use Rattle.text.specs.Lines.{lines, endOf, lineAt}
 use Rattle.sheet.specs.declared.Record.{Record}
@@ -54,17 +55,8 @@ goes states actions =
     (states * actions)
     0
 
--- an arrow from v to u
-abbrev pub drawn : ℕ → ℕ → List Bool → List Bool
-drawn v u arrows = set arrows (v * BOXES + u) true
-
--- every box interferes with itself
-unfoldable pub selves : ℕ → List Bool → List Bool
-selves zero arrows = arrows
-selves (suc k) arrows = drawn k k (selves k arrows)
-
 -- `flow` and `both` lines, as many as there are
-unfoldable pub flows : List ℕ → List Bool → List (List ℕ) → ℕ → Got (List Bool)
+unfoldable pub flows : List ℕ → List ℕ → List (List ℕ) → ℕ → Got (List ℕ)
 flows ids arrows [] n = got arrows [] n
 flows ids arrows (l ∷ ls) n =
     onFlow (flowLine ids l)

@@ -1,10 +1,11 @@
 -- A whole sheet.
 use Prim.Native.Nat.{ℕ, _-_}
 use mathlib.Core.List.{List, [], _∷_}
-use mathlib.Core.Bool.{Bool, false, cond, _&&_}
+use mathlib.Core.Bool.{cond, _&&_}
 use lib.ListN.{length, getD, take, replicate}
 use lib.Dec.{eqb}
-use Rattle.model.specs.Limits.{ACTIONS, BOXES, ARROWS, NEXT-ENTRIES, OUTPUT-ENTRIES, VIEW-ENTRIES, SHEET-BYTES}
+use Rattle.model.specs.Arrows.{selves}
+use Rattle.model.specs.Limits.{ACTIONS, BOXES, NEXT-ENTRIES, OUTPUT-ENTRIES, VIEW-ENTRIES, SHEET-BYTES}
 use Rattle.model.specs.Made.{sizesFrom, machineFrom, modelFrom}
 use Rattle.model.specs.declared.Model as models
 use Rattle.model.specs.declared.Sizes.{Sizes}
@@ -14,7 +15,7 @@ use Rattle.sheet.specs.declared.Answer.the-variants.{Model, Refused}
 use Rattle.sheet.specs.declared.Sheet.{Sheet}
 use Rattle.sheet.specs.Numbers.{onRecord}
 use Rattle.sheet.specs.Records.{sized, sheetLine}
-use Rattle.sheet.specs.Phases.{Got, got, refused, Steps, steps, boxes, acts, goes, selves, flows, views}
+use Rattle.sheet.specs.Phases.{Got, got, refused, Steps, steps, boxes, acts, goes, flows, views}
 
 -- what was read goes on to the next phase
 abbrev pub onGot : {S T : Type 0} → Got S → (S → List (List ℕ) → ℕ → Got T) → Got T
@@ -24,17 +25,17 @@ onGot (refused e n) f = refused e n
 -- the tables and the arrows
 pub record Drawn : Type 0 where
   pub steps : Steps
-  pub arrows : List Bool
+  pub arrows : List ℕ
   pub views : List ℕ
 
-abbrev pub drawnAs : Steps → List Bool → List ℕ → Drawn
+abbrev pub drawnAs : Steps → List ℕ → List ℕ → Drawn
 drawnAs t arrows v = record { steps = t; arrows = arrows; views = v }
 
 -- `go` lines, then `flow` and `both` lines, then `view` lines
 unfoldable pub drawing : ℕ → ℕ → List ℕ → Steps → List ℕ → List (List ℕ) → ℕ → Got Drawn
 drawing states actions ids t v ls n =
     onGot (goes states actions t ls n) (λ t ls n.
-    onGot (flows ids (selves (length ids) (replicate ARROWS false)) ls n) (λ arrows ls n.
+    onGot (flows ids (selves (length ids) (replicate BOXES 0)) ls n) (λ arrows ls n.
     onGot (views ids states v ls n) (λ v ls n.
     got (drawnAs t arrows v) ls n)))
 
@@ -99,12 +100,12 @@ pub record Outcome : Type 0 where
 abbrev pub outcome : Sheet → List ℕ → List ℕ → List ℕ → Outcome
 outcome s next outputs views = record { sheet = s; next = next; outputs = outputs; views = views }
 
-abbrev pub sheetAs : Answer → List ℕ → List ℕ → List Bool → Sheet
+abbrev pub sheetAs : Answer → List ℕ → List ℕ → List ℕ → Sheet
 sheetAs a ids owners arrows = record { answer = a; ids = ids; owners = owners; arrows = arrows }
 
--- a refused sheet: every other number is 0, every arrow false
+-- a refused sheet: every other number is 0, and there is no arrow
 abbrev pub refusedAs : ℕ → ℕ → Sheet
-refusedAs e n = sheetAs (Refused e n) (replicate BOXES 0) (replicate ACTIONS 0) (replicate ARROWS false)
+refusedAs e n = sheetAs (Refused e n) (replicate BOXES 0) (replicate ACTIONS 0) (replicate BOXES 0)
 
 -- a refusal makes the tables zero
 abbrev pub given : Reading → Outcome

@@ -76,7 +76,7 @@ pub struct Sheet {
     pub answer: Answer,
     pub ids: [u32; model::BOXES],
     pub owners: [u8; model::ACTIONS],
-    pub arrows: [bool; model::ARROWS],
+    pub arrows: [u32; model::BOXES],
 }
 
 // A part of a text, from its start to its end.
@@ -112,7 +112,7 @@ pub struct Acts {
 // The `flow` and `both` lines, with the arrows.
 pub struct Flows {
     pub phase: Phase,
-    pub arrows: [bool; model::ARROWS],
+    pub arrows: [u32; model::BOXES],
 }
 
 // All lines after the `sheet` line, with what they give beside the tables.
@@ -120,10 +120,10 @@ pub struct Body {
     pub phase: Phase,
     pub ids: [u32; model::BOXES],
     pub owners: [u8; model::ACTIONS],
-    pub arrows: [bool; model::ARROWS],
+    pub arrows: [u32; model::BOXES],
 }
 
-// A refused sheet: every other number 0, every arrow false.
+// A refused sheet: every other number 0, no arrow.
 fn refused(number: u8, line: usize) -> Sheet
     ensures { λ r. ⌜ r ≡ refusedAs number line ⌝ }
 {
@@ -131,7 +131,7 @@ fn refused(number: u8, line: usize) -> Sheet
         answer: Answer::Refused { number, line },
         ids: [0u32; model::BOXES],
         owners: [0u8; model::ACTIONS],
-        arrows: [false; model::ARROWS],
+        arrows: [0u32; model::BOXES],
     }
 }
 

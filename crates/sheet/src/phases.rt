@@ -10,13 +10,13 @@ use super::Record;
 use super::Taken;
 use text::Line;
 ghost use mathlib.Core.Path.{_≡_};
-ghost use mathlib.Core.Bool.{false};
 ghost use Prim.Native.Nat.{_+_, _<_, _≤_};
 ghost use lib.ListN.{length, drop, replicate};
-ghost use Rattle.model.specs.Limits.{STATES, ACTIONS, BOXES, ARROWS, NEXT-ENTRIES, OUTPUT-ENTRIES, VIEW-ENTRIES};
+ghost use Rattle.model.specs.Limits.{STATES, ACTIONS, BOXES, NEXT-ENTRIES, OUTPUT-ENTRIES, VIEW-ENTRIES};
+ghost use Rattle.model.specs.Arrows.{drawn, selves};
 ghost use Rattle.text.specs.Lines.{lines, Ended};
 ghost use Rattle.sheet.specs.Records.{lineDue};
-ghost use Rattle.sheet.specs.Phases.{takenBy, told, Few, boxes, acts, steps, goes, selves, flows, views as viewsOf};
+ghost use Rattle.sheet.specs.Phases.{takenBy, told, Few, boxes, acts, steps, goes, flows, views as viewsOf};
 ghost use Rattle.sheet.specs.Reading.{drawing, drawnAs, parts, partsAs};
 
 // The line that starts at `at`, likewise; or 11 where the text has ended.
@@ -131,15 +131,23 @@ fn read_goes(
     Phase::Done { at, line }
 }
 
-// The self-arrows of the first `boxes` boxes, and no others.
-fn self_arrows(boxes: usize) -> [bool; model::ARROWS]
-    requires { ⌜ boxes ≤ BOXES ⌝ }
-    ensures { λ r. ⌜ r ≡ selves boxes (replicate ARROWS false) ⌝ }
+// An arrow more, from v to u.
+fn draw(arrows: &mut [u32; model::BOXES], v: usize, u: usize)
+    requires { ⌜ (length (now arrows) ≡ BOXES) × (v < BOXES) × (u < BOXES) ⌝ }
+    ensures { λ r. ⌜ now (arrows .exit) ≡ drawn v u (now (arrows .entry)) ⌝ }
 {
-    let mut arrows = [false; model::ARROWS];
+    arrows[v] = arrows[v] | 1u32 << u;
+}
+
+// The self-arrows of the first `boxes` boxes, and no others.
+fn self_arrows(boxes: usize) -> [u32; model::BOXES]
+    requires { ⌜ boxes ≤ BOXES ⌝ }
+    ensures { λ r. ⌜ r ≡ selves boxes (replicate BOXES 0) ⌝ }
+{
+    let mut arrows = [0u32; model::BOXES];
     let mut k = 0;
     while k < boxes {
-        arrows[k * model::BOXES + k] = true;
+        draw(&mut arrows, k, k);
         k += 1;
     }
     arrows
@@ -147,7 +155,7 @@ fn self_arrows(boxes: usize) -> [bool; model::ARROWS]
 
 fn read_flows(text: &[u8], from: usize, first: usize, ids: &[u32]) -> Flows
     requires { ⌜ Ended (now text) × (first ≤ from + 1) × (length (now ids) ≤ BOXES) ⌝ }
-    ensures { λ r. ⌜ (told (r .phase) (now (text .entry)) (r .arrows) ≡ flows (now (ids .entry)) (selves (length (now (ids .entry))) (replicate ARROWS false)) (lines (drop from (now (text .entry)))) first) × Few (r .phase) ⌝ }
+    ensures { λ r. ⌜ (told (r .phase) (now (text .entry)) (r .arrows) ≡ flows (now (ids .entry)) (selves (length (now (ids .entry))) (replicate BOXES 0)) (lines (drop from (now (text .entry)))) first) × Few (r .phase) ⌝ }
 {
     let mut arrows = self_arrows(ids.len());
     let mut at = from;
@@ -167,12 +175,12 @@ fn read_flows(text: &[u8], from: usize, first: usize, ids: &[u32]) -> Flows
                 };
             }
             Arrow::One(v, u, next) => {
-                arrows[v as usize * model::BOXES + u as usize] = true;
+                draw(&mut arrows, v as usize, u as usize);
                 at = next;
             }
             Arrow::Two(v, u, next) => {
-                arrows[v as usize * model::BOXES + u as usize] = true;
-                arrows[u as usize * model::BOXES + v as usize] = true;
+                draw(&mut arrows, v as usize, u as usize);
+                draw(&mut arrows, u as usize, v as usize);
                 at = next;
             }
         }
@@ -238,7 +246,7 @@ fn read_drawing(
     let Phase::Done { at, line } = goes else {
         return Flows {
             phase: goes,
-            arrows: [false; model::ARROWS],
+            arrows: [0u32; model::BOXES],
         };
     };
     let flows = read_flows(text, at, line, ids);
@@ -281,7 +289,7 @@ pub(crate) fn read_body(
             phase: boxed,
             ids,
             owners: [0u8; model::ACTIONS],
-            arrows: [false; model::ARROWS],
+            arrows: [0u32; model::BOXES],
         };
     };
     let owned = read_acts(text, at, line, actions, &ids[0..boxes]);
@@ -296,7 +304,7 @@ pub(crate) fn read_body(
             phase: acted,
             ids,
             owners,
-            arrows: [false; model::ARROWS],
+            arrows: [0u32; model::BOXES],
         };
     };
     let drawn = read_drawing(

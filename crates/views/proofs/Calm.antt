@@ -146,7 +146,7 @@ module _ {m : Machine} {next views low : List ℕ} (g : GoodTable m next) (w : L
       (tears-off lu (g .machine .owner-in a la) la (subst (λ x. Calm (m .sizes .states) (m .sizes .actions) next low u x a) e h) s t p q))))))
 
   -- the search over states finds nothing
-  pub keeps-still : {u a : ℕ} (owners : List ℕ) (arrows : List Bool) → u < m .sizes .boxes → a < m .sizes .actions → Keeps (m .sizes .states) (m .sizes .actions) next low u a →
+  pub keeps-still : {u a : ℕ} (owners arrows : List ℕ) → u < m .sizes .boxes → a < m .sizes .actions → Keeps (m .sizes .states) (m .sizes .actions) next low u a →
       respectFrom (m .sizes .states) (m .sizes .actions) owners arrows next views u a ≡ none
   unfolding movesIn alikeIn
   keeps-still {u} {a} owners arrows lu la h =

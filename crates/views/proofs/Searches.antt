@@ -1,7 +1,7 @@
 -- The three searches of `noninterference`, read off the tables, level by level.
 -- Assumes nothing.
 use mathlib.Core.Path.{_≡_, refl, sym, ap, _∙_}
-use mathlib.Core.Bool.{Bool, true, false, not}
+use mathlib.Core.Bool.{Bool, true, not}
 use mathlib.Core.List.{List, []}
 use mathlib.Core.Option.{Option, some}
 use Prim.Native.Nat.{ℕ, _+_, _*_}
@@ -12,7 +12,7 @@ use Rattle.laws.specs.Search.{firstOf}
 use Rattle.noninterference.specs.Purge.{intransitive}
 use Rattle.noninterference.specs.Place.{Place, output, respect, step}
 use Rattle.noninterference.specs.Judged.{leaks, moves, alikeToo, tears, firstOutput, firstRespect, firstStep}
-use Rattle.model.specs.Limits.{BOXES}
+use Rattle.model.specs.Arrows.{leads}
 use Rattle.model.specs.Denoted.{machineOf, policyOf, viewOf}
 use Rattle.model.specs.declared.Machine.{Machine}
 use Rattle.model.specs.declared.Model.{Model}
@@ -30,13 +30,13 @@ module _ (states actions : ℕ) (owners outputs views : List ℕ) where
   abbrev pub outputOf : ℕ → Option Place
   outputOf a = firstOf states (outputFrom a)
 
-module _ (states actions : ℕ) (owners : List ℕ) (arrows : List Bool) (next views : List ℕ) where
+module _ (states actions : ℕ) (owners arrows next views : List ℕ) where
   -- at box u, action a and s; at u and a; at u
   abbrev pub respectAt : ℕ → ℕ → ℕ → Option Place
   respectAt u a s = when true (when (movesIn states actions next views u a s) (some (respect u a s)))
 
   abbrev pub respectFrom : ℕ → ℕ → Option Place
-  respectFrom u a = when (not (getD arrows (getD owners a 0 * BOXES + u) false)) (firstOf states (respectAt u a))
+  respectFrom u a = when (not (leads arrows (getD owners a 0) u)) (firstOf states (respectAt u a))
 
   abbrev pub respectOf : ℕ → Option Place
   respectOf u = firstOf actions (respectFrom u)

@@ -188,7 +188,7 @@ fn first_respect(
     'boxes: for u in 0..boxes {
         'actions: for a in 0..actions {
             let o = model::owner(&owners, a);
-            if model::arrow(&arrows, o * model::BOXES + u) {
+            if model::arrow(&arrows, o, u) {
                 continue 'actions;
             }
             if guards::note_kept(low, next, kept, states, actions, u, a) {

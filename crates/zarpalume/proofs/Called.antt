@@ -1,7 +1,7 @@
 -- The host call: zeros after what was written, and what the reader's answer makes of the verdict.
 -- Assumes nothing.
 use mathlib.Core.Path.{_≡_, refl, sym, _∙_, ap, subst}
-use mathlib.Core.Bool.{Bool, false}
+use mathlib.Core.Bool.{false}
 use mathlib.Core.List.{List, [], _∷_, _++_}
 use Prim.Native.Nat.{ℕ, _-_, _≤_}
 use native.Mathlib.Omega.{arith}
@@ -46,11 +46,11 @@ unfolding callOf
 call-bad sheet buffer h = choose-no _ h refl
 
 -- ---- the model m that the code makes, of the machine k
-pub few-boxes : {m : Model} {k : Machine} {z : Sizes} {owners ids : List ℕ} {arrows : List Bool} →
+pub few-boxes : {m : Model} {k : Machine} {z : Sizes} {owners ids : List ℕ} {arrows : List ℕ} →
     m ≡ modelFrom k ids arrows → k ≡ machineFrom z owners → z .boxes ≤ BOXES → m .machine .sizes .boxes ≤ BOXES
 few-boxes hm hk h = subst (λ (m : Model). m .machine .sizes .boxes ≤ BOXES) (sym hm) (subst (λ (k : Machine). k .sizes .boxes ≤ BOXES) (sym hk) h)
 
-pub verdict-on : (next outputs views : List ℕ) {m : Model} {k k′ : Machine} {ids v : List ℕ} {arrows : List Bool} →
+pub verdict-on : (next outputs views : List ℕ) {m : Model} {k k′ : Machine} {ids v : List ℕ} {arrows : List ℕ} →
     m ≡ modelFrom k ids arrows → k ≡ k′ → verdictOf (modelFrom k′ ids arrows) next outputs views ≡ v → verdictOf m next outputs views ≡ v
 verdict-on next outputs views {ids = ids} {arrows = arrows} hm hk h =
     ap (λ m. verdictOf m next outputs views) (hm ∙ ap (λ k. modelFrom k ids arrows) hk) ∙ h

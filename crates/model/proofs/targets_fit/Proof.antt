@@ -1,25 +1,23 @@
 -- `model::targets_fit` meets its contract. Assumes nothing.
-use Prim.Native.Nat.{_≤_, _-_, _+_, _*_}
-use mathlib.Core.Bool.{false}
-use lib.Dec.{ltb}
-use lib.ListN.{getD}
-use Rattle.laws.specs.Choice.{both, brings}
-use Rattle.laws.specs.Range.{Held}
-use Rattle.model.specs.Limits.{BOXES}
-use Rattle.laws.proofs.Loops.{each}
+use borrow.Author.Needs.{needs}
+use borrow.Author.Tests.{lt-ltb, le-ltb}
+use Rattle.laws.specs.Choice.{choose}
+use Rattle.model.specs.Refused.{rowFits}
 use Rattle.model.proofs.targets_fit.Statement.{statement}
 use Rattle.model.proofs.targets_fit.Tie as tie
 
-abbrev Inv-targets : tie.InvT-targets
-Inv-targets arrows source boxes u₀ u = (u ≤ BOXES) × Held u (λ u. brings (getD arrows (source * BOXES + u) false) (both (ltb source boxes) (ltb u boxes)))
+returns : tie.Need-returns
+unfolding rowFits choose
+returns c =
+    let a = c .before .before .before .args in
+    rw (lt-ltb (a .source) (a .boxes) (c .before .before .if1 .taken), c .before .wide32 .ensures, c .power .ensures)
 
-abbrev μ-targets : tie.MeasureT-targets
-μ-targets arrows source boxes u₀ u = BOXES - u
+returns-2 : tie.Need-returns-2
+unfolding rowFits choose
+returns-2 c = let a = c .before .args in rw (le-ltb (a .source) (a .boxes) (c .if1 .left))
 
 pub targets-fit-spec : {M : Type 1} → statement M
-targets-fit-spec =
-    tie.close
-    (tie.spec
-    Inv-targets
-    μ-targets
-    (λ c. search each) (λ c κs. search each) (λ c. search each) (λ c. search each) (λ c. search each) (λ c. search each) (λ c. search each))
+targets-fit-spec = tie.close (tie.spec
+    (λ c κs. search needs) (λ c κs. search needs)
+    returns
+    returns-2)

@@ -10,7 +10,7 @@ use Rattle.purge.proofs.mark.Reads as mark
 use Rattle.purge.proofs.mark.Kinds as mark-kinds
 use Rattle.purge.proofs.+mark.Lts-mark as mark-lts
 use Rattle.model.proofs.owner.Reads as owner-reads
-use Rattle.purge.proofs.contains.Reads as contains-reads
+use Rattle.model.proofs.contains.Reads as contains-reads
 use Rattle.purge.proofs.set_at.Reads as set-at-reads
 use Rattle.purge.proofs.wide.Reads as wide-reads
 use Rattle.purge.proofs.+mark.{statement}

@@ -1,20 +1,20 @@
 -- `purge::all_interferers` meets its contract: the sets below u are written. Assumes nothing.
 use mathlib.Core.Path.{_≡_, refl}
-use mathlib.Core.Bool.{false}
 use Prim.Native.Nat.{_+_, _-_, _*_, _≤_}
 use native.Mathlib.Omega.{arith}
 use lib.ListN.{length, getD, length-set}
 use borrow.Author.Needs.{needs}
 use Rattle.laws.specs.Filled.{Filled}
 use Rattle.laws.proofs.Filled.{filled-none, filled-more, filled-all}
+use Rattle.model.specs.Arrows.{leads}
 use Rattle.model.specs.Limits.{BOXES}
-use Rattle.purge.specs.Sets.{pack}
+use Rattle.laws.specs.Sets.{pack}
 use Rattle.purge.proofs.all_interferers.Statement.{statement}
 use Rattle.purge.proofs.all_interferers.Tie as tie
 
 abbrev Inv-boxes : tie.InvT-boxes
 Inv-boxes arrows sets₀ u₀ sets u =
-    (u ≤ BOXES) × (length sets ≡ BOXES) × Filled (λ w. pack (λ v. getD arrows (v * BOXES + w) false) 0 BOXES) u sets
+    (u ≤ BOXES) × (length sets ≡ BOXES) × Filled (λ w. pack (λ v. leads arrows v w) 0 BOXES) u sets
 
 abbrev μ-boxes : tie.MeasureT-boxes
 μ-boxes arrows sets₀ u₀ sets u = BOXES - u

@@ -2,12 +2,14 @@
 use borrow.Author.Needs.{needs}
 use mathlib.Core.Path.{ap, _∙_}
 use Rattle.model.specs.Made.{modelFrom}
-use Rattle.register.specs.Tables.{selves, draws}
+use Rattle.laws.specs.Sets.{including}
+use Rattle.model.specs.Arrows.{selves}
+use Rattle.register.specs.Tables.{draws}
 use Rattle.register.proofs.model.Statement.{statement}
 use Rattle.register.proofs.model.Tie as tie
 
 returns : tie.Need-returns
-unfolding selves draws
+unfolding selves draws including
 returns c = c .new .ensures ∙ ap (λ m. modelFrom m _ _) (c .before .machine .ensures)
 
 pub model-spec : {M : Type 1} → statement M
@@ -15,7 +17,5 @@ model-spec =
     tie.close
     (tie.spec
     (λ c. search needs) (λ c. search needs) (λ c. search needs) (λ c. search needs) (λ c. search needs) (λ c. search needs) (λ c. search needs)
-    (λ c. search needs) (λ c. search needs) (λ c. search needs) (λ c. search needs) (λ c. search needs) (λ c. search needs) (λ c. search needs)
-    (λ c. search needs) (λ c. search needs) (λ c. search needs) (λ c. search needs) (λ c. search needs) (λ c. search needs) (λ c. search needs)
-    (λ c. search needs) (λ c. search needs) (λ c. search needs) (λ c. search needs) (λ c κs. search needs) (λ c κs. search needs)
+    (λ c. search needs) (λ c κs. search needs) (λ c κs. search needs)
     returns)

@@ -45,24 +45,6 @@ actions-holds : tie.Need-actions-holds Inv-states μ-states Inv-actions μ-actio
 actions-holds c =
     (omega arith, c .before .boxes .inv .1, passed-none _, c .before .boxes .inv .3)
 
-mul-arrow : tie.Need-mul-arrow Inv-states μ-states Inv-actions μ-actions Inv-boxes μ-boxes
-mul-arrow c =
-    let c3 = c .before .before .before in
-    let c12 = c3 .before .before .before .before .before .before .before .before .before in
-    let g = c12 .pre .1 .0 .machine in
-    let h = owner-small g (c3 .actions-test .taken) (c .before .owner .ensures) in
-    let l = g .sizes .boxes-most in
-    omega arith
-
-add-arrow : tie.Need-add-arrow Inv-states μ-states Inv-actions μ-actions Inv-boxes μ-boxes
-add-arrow c =
-    let c3 = c .before .before .before in
-    let c12 = c3 .before .before .before .before .before .before .before .before .before in
-    let g = c12 .pre .1 .0 .machine in
-    let h = owner-small g (c3 .actions-test .taken) (c .before .owner .ensures) in
-    let l = g .sizes .boxes-most in
-    omega arith
-
 actions-again : tie.Need-actions-again Inv-states μ-states Inv-actions μ-actions Inv-boxes μ-boxes
 actions-again c =
     let c3 = c .before .before .before in
@@ -199,8 +181,6 @@ first-respect-spec =
     (λ c. search needs)
     (λ c κs. search needs)
     (λ c. search needs)
-    mul-arrow
-    add-arrow
     (λ c κs. search needs)
     (λ c. omega arith) (λ c. omega arith)
     actions-again

@@ -6,10 +6,10 @@ use Rattle.drive.proofs.put.arrows.Statement.{statement}
 use Rattle.drive.proofs.put.arrows.Tie as tie
 
 abbrev Inv-arrows : tie.InvT-arrows
-Inv-arrows answer₀ to₀ list i₀ answer to i = Unit {0}
+Inv-arrows answer₀ to₀ rows i₀ answer to i = Unit {0}
 
 abbrev μ-arrows : tie.MeasureT-arrows
-μ-arrows answer₀ to₀ list i₀ answer to i = ARROWS - i
+μ-arrows answer₀ to₀ rows i₀ answer to i = ARROWS - i
 
 pub arrows-spec : {M : Type 1} → statement M
 arrows-spec =
