@@ -50,7 +50,7 @@ size_t zarpalume_verdict(const uint8_t *sheet, size_t sheet_length, uint8_t *ver
 // Each call returns 0, or the number of its refusal, and has then changed nothing. Tested in this order:
 //   10  the list or the history has another length
 //   12  list or history break the rules: a record or an edit that no call makes, a live id twice or deleted in the history,
-//       an arrow that touches no live box, a count over ZARPALUME_EDITS
+//       an arrow that touches a box which isn't live, a count over ZARPALUME_EDITS
 //   17  a new edit with ZARPALUME_EDITS in the history
 //    8  unknown id
 //   14  the id to be added is live, or deleted in the history
@@ -76,7 +76,8 @@ uint32_t zarpalume_draw(zarpalume_box *boxes, size_t boxes_length, uint32_t *his
 uint32_t zarpalume_erase(zarpalume_box *boxes, size_t boxes_length, uint32_t *history, size_t history_length, uint32_t *count,
                          uint32_t source, uint32_t target);
 
-// Gives back the boxes, their order, ids and arrows as they were before the last edit, which leaves the history.
+// Gives back the boxes, their order, ids and arrows as they were before the last edit, which leaves the history;
+// promised where nobody but these calls has changed the drawing.
 uint32_t zarpalume_undo(zarpalume_box *boxes, size_t boxes_length, uint32_t *history, size_t history_length, uint32_t *count);
 
 // Drops the whole history, and keeps boxes and arrows.

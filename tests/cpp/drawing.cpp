@@ -88,7 +88,17 @@ std::string sheet_of(const Drawing &drawing) {
     return sheet;
 }
 
-// Every line as it should be, and judged: one state is always accepted, and a sheet has no larger ids.
+// One state is always accepted; a sheet without boxes is refused with 5, and a larger id with 4.
+bool judged_right(const Drawing &drawing, const Shown &wanted) {
+    const auto verdict = zarpalume::judge(sheet_of(drawing));
+    if (wanted.boxes.empty()) {
+        return verdict.refused() == zarpalume::Refusal{5, 1};
+    }
+    const bool fits = std::all_of(wanted.boxes.begin(), wanted.boxes.end(), [](std::uint32_t id) { return id <= 65535; });
+    return fits ? verdict.accepted() : verdict.refused() && verdict.refused()->number == 4;
+}
+
+// Every line as it should be, and read by the judge.
 bool writes(const Drawing &drawing, const Shown &wanted) {
     std::string boxes;
     std::string arrows;
@@ -108,8 +118,7 @@ bool writes(const Drawing &drawing, const Shown &wanted) {
         }
         arrows.erase(0, line.size());
     }
-    const bool fits = !wanted.boxes.empty() && std::all_of(wanted.boxes.begin(), wanted.boxes.end(), [](std::uint32_t id) { return id <= 65535; });
-    return boxes.empty() && arrows.empty() && zarpalume::judge(sheet_of(drawing)).accepted() == fits;
+    return boxes.empty() && arrows.empty() && judged_right(drawing, wanted);
 }
 
 // The same steps on a Drawing, from a fresh one up to where the host would write itself.
