@@ -15,6 +15,7 @@
 #include <span>
 #include <string_view>
 #include <system_error>
+#include <type_traits>
 
 namespace zarpalume {
 
@@ -124,15 +125,16 @@ inline std::uint32_t take_number(std::string_view &line) noexcept {
 // A number's decimal digits.
 class Digits {
 public:
-    explicit Digits(std::uint32_t value) noexcept : end_{std::to_chars(room_.data(), room_.data() + room_.size(), value).ptr} {}
-    Digits(const Digits &) = delete;
-    Digits &operator=(const Digits &) = delete;
+    explicit Digits(std::uint32_t value) noexcept {
+        const char *const end = std::to_chars(room_.data(), room_.data() + room_.size(), value).ptr;
+        length_ = static_cast<std::size_t>(end - room_.data());
+    }
 
-    std::string_view text() const noexcept { return {room_.data(), end_}; }
+    std::string_view text() const noexcept { return {room_.data(), length_}; }
 
 private:
     std::array<char, 10> room_{};
-    const char *end_;
+    std::size_t length_ = 0;
 };
 
 // Writes a line of a sheet.
@@ -328,6 +330,7 @@ public:
     // Writes a sheet's `box` lines through an output iterator, which is given back; label(id) is the box's label.
     // A label or an id that no sheet has is written as it is, and refused when the sheet is judged.
     template <std::output_iterator<char> Out, typename Label>
+        requires std::is_invocable_r_v<std::string_view, Label &, std::uint32_t>
     Out write_boxes(Out out, Label &&label) const {
         for (const std::uint32_t id : boxes()) {
             out = detail::put_line(out, "box", {detail::Digits{id}.text(), label(id)});
