@@ -5,6 +5,7 @@
 
 #include <zarpalume.hpp>
 
+#include <cstring>
 #include <map>
 #include <string>
 
@@ -144,6 +145,24 @@ bool right(const Asked &asked) {
     return called(drawing, asked) && edited(asked);
 }
 
+// The header's names for the numbers of a record and of an edit.
+bool names_are_right() {
+    std::array<zarpalume_box, ZARPALUME_BOXES> boxes{};
+    std::array<std::uint32_t, ZARPALUME_EDIT_WORDS> history{};
+    std::uint32_t count = 0;
+    const auto done = [&](auto call, auto... ids) { return call(boxes.data(), boxes.size(), history.data(), history.size(), &count, ids...) == 0; };
+    const auto last = [&] {
+        zarpalume_edit edit{};
+        std::memcpy(&edit, history.data() + (count - 1) * (history.size() / ZARPALUME_EDITS), sizeof edit);
+        return edit;
+    };
+    const bool added = done(zarpalume_add, 5u) && done(zarpalume_add, 6u) && done(zarpalume_add, 7u) && done(zarpalume_draw, 6u, 5u);
+    const bool drawn = done(zarpalume_draw, 7u, 6u) && last().kind == 3 && last().at == 2 && last().to == 1;
+    const bool kept = boxes[1].id == 6 && boxes[1].live == 1 && boxes[1].arrows == 0b001;
+    const bool deleted = done(zarpalume_delete, 6u) && last().kind == 2 && last().at == 1 && last().id == 6 && last().out == 0b001 && last().into == 0b100;
+    return added && drawn && kept && deleted;
+}
+
 std::string read_file(const char *name) {
     std::ifstream file{name, std::ios::binary};
     return {std::istreambuf_iterator<char>{file}, {}};
@@ -192,7 +211,8 @@ int main(int count, char **words) {
     const std::vector<Asked> all = read_edits(words[1], words[2]);
     const std::size_t wrong = wrong_in_threads(all, threads, right);
     const bool drawn = std::all_of(words + 4, words + count, [](const char *name) { return drawn_anew(read_file(name)); });
-    std::printf("drawing: %zu requests, each in %zu threads, %zu answered wrongly; %d sheets drawn anew%s\n", all.size(), threads, wrong, count - 4,
-                drawn ? "" : ", WRONG");
-    return threads > 0 && wrong == 0 && drawn ? 0 : 1;
+    const bool named = names_are_right();
+    std::printf("drawing: %zu requests, each in %zu threads, %zu answered wrongly; %d sheets drawn anew%s; names %s\n", all.size(), threads, wrong,
+                count - 4, drawn ? "" : ", WRONG", named ? "right" : "WRONG");
+    return threads > 0 && wrong == 0 && drawn && named ? 0 : 1;
 }
