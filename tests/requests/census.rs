@@ -1,23 +1,30 @@
 //! Counts what the answers to a stream cover, and names what they lack.
 
 use crate::compare::Speaker;
-use crate::stream::Message;
+use crate::edits::{EDITS, FIELDS};
+use crate::stream::{value, values, Message, Part, Step};
 use std::collections::BTreeMap;
 use std::fs::File;
 use std::io::{self, BufReader};
 
 /// The refusal numbers that each call can give.
-const REFUSALS: [(char, &[u64]); 7] = [
-    ('R', &[1, 2, 3, 4, 5, 6, 7, 8, 9, 10, 11]),
-    ('L', &[1, 2, 3, 4, 5, 6, 7, 8, 9, 11, 13]),
-    ('J', &[10, 12]),
-    ('N', &[10, 12]),
-    ('P', &[10, 12, 13]),
-    ('S', &[10, 12]),
-    ('V', &[1, 2, 3, 4, 5, 6, 7, 8, 9, 11]),
+const REFUSALS: [(&str, &[u64]); 13] = [
+    ("R", &[1, 2, 3, 4, 5, 6, 7, 8, 9, 10, 11]),
+    ("L", &[1, 2, 3, 4, 5, 6, 7, 8, 9, 11, 13]),
+    ("J", &[10, 12]),
+    ("N", &[10, 12]),
+    ("P", &[10, 12, 13]),
+    ("S", &[10, 12]),
+    ("V", &[1, 2, 3, 4, 5, 6, 7, 8, 9, 11]),
+    ("E add", &[10, 12, 14, 15, 17]),
+    ("E delete", &[8, 10, 12, 17]),
+    ("E draw", &[8, 10, 12, 17, 18]),
+    ("E erase", &[8, 10, 12, 17, 18]),
+    ("E undo", &[10, 12, 16]),
+    ("E drop", &[10, 12]),
 ];
 
-const EVENTS: [&str; 34] = [
+const EVENTS: [&str; 51] = [
     "R a sheet of 32,768 bytes read",
     "R 128 states",
     "R 32 actions",
@@ -52,6 +59,23 @@ const EVENTS: [&str; 34] = [
     "V no needed arrow",
     "V 20 needed arrows or more",
     "V a buffer of the wrong length",
+    "E add done",
+    "E delete done",
+    "E draw done",
+    "E erase done",
+    "E undo done",
+    "E drop done",
+    "E undo of an adding",
+    "E undo of a deletion",
+    "E undo of a deletion with arrows both ways",
+    "E undo of a drawn arrow",
+    "E undo of an erased arrow",
+    "E undo refused by its own rule",
+    "E a full history undone to its first edit",
+    "E a full list with every arrow",
+    "E words beyond the count made blank",
+    "E the id 0 added",
+    "E the id 4294967295 added",
 ];
 
 #[derive(Default)]
@@ -70,6 +94,9 @@ impl Census {
 
     fn see(&mut self, request: &Message, answer: &Message) {
         let letter = request.letter;
+        if letter == b'E' {
+            return self.see_edits(request, answer);
+        }
         let number = answer.value("number");
         if number > 0 {
             self.note(true, letter, &format!("refusal {number}"));
@@ -127,6 +154,46 @@ impl Census {
         }
     }
 
+    fn see_edits(&mut self, request: &Message, answer: &Message) {
+        let mut before = &request.parts[..];
+        let mut undone = 0;
+        let mut own_rule = false;
+        for (step, after) in request.steps_asked().into_iter().zip(answer.steps_answered()) {
+            let number = value(after, "number");
+            // Undo was refused with 12, and on the same drawing another call is not.
+            self.note(own_rule && step.call().is_some() && step.kind != 5 && ![10, 12].contains(&number), b'E', "undo refused by its own rule");
+            own_rule = step.kind == 5 && number == 12;
+            undone = if step.kind == 5 && number == 0 { undone + 1 } else { 0 };
+            self.note(undone == EDITS, b'E', "a full history undone to its first edit");
+            if let Some(call) = step.call() {
+                let outcome = if number == 0 { "done".to_string() } else { format!("refusal {number}") };
+                self.note(true, b'E', &format!("{call} {outcome}"));
+                if number == 0 {
+                    self.see_edit(step, before, after);
+                }
+            }
+            before = after;
+        }
+    }
+
+    /// A step that changed the drawing.
+    fn see_edit(&mut self, step: Step, before: &[Part], after: &[Part]) {
+        self.note(step.kind == 1 && step.first == 0, b'E', "the id 0 added");
+        self.note(step.kind == 1 && step.first == u64::from(u32::MAX), b'E', "the id 4294967295 added");
+        let arrows: u32 = values(after, "list").chunks(3).map(|record| record[2].count_ones()).sum();
+        self.note(arrows == 240, b'E', "a full list with every arrow");
+        let edits: Vec<&[u64]> = values(before, "history").chunks(FIELDS).collect();
+        let count = value(before, "edits") as usize;
+        let beyond = edits.iter().skip(count + 1).any(|edit| edit.iter().any(|&word| word != 0));
+        self.note(beyond, b'E', "words beyond the count made blank");
+        if step.kind == 5 {
+            let last = edits[count - 1];
+            let undone = ["an adding", "a deletion", "a drawn arrow", "an erased arrow"][last[0] as usize - 1];
+            self.note(true, b'E', &format!("undo of {undone}"));
+            self.note(last[4] != 0 && last[5] != 0, b'E', "undo of a deletion with arrows both ways");
+        }
+    }
+
     fn see_verdict(&mut self, request: &Message, answer: &Message) {
         self.note(request.value("verdict bytes") != 8_192, b'V', "a buffer of the wrong length");
         let length = answer.value("length") as usize;
@@ -144,19 +211,19 @@ impl Census {
     }
 }
 
-/// Prints how often each of the wanted answers came, and says whether each did at least twice.
-pub fn census(requests: &str, command: &str) -> io::Result<bool> {
+/// Prints how often each of the wanted answers of these letters came, and says whether each did at least twice.
+pub fn census(requests: &str, command: &str, letters: &str) -> io::Result<bool> {
     let mut source = BufReader::with_capacity(1 << 16, File::open(requests)?);
     let mut speaker = Speaker::start(command, requests)?;
     let mut census = Census::default();
     while let Some(request) = Message::request(&mut source)? {
-        let answer = Message::answer(&mut speaker.answers, request.letter)?;
+        let answer = Message::answer(&mut speaker.answers, &request)?;
         census.see(&request, &answer);
     }
     speaker.end()?;
-    let refusals = REFUSALS.iter().flat_map(|(letter, numbers)| numbers.iter().map(move |number| format!("{letter} refusal {number}")));
+    let refusals = REFUSALS.iter().flat_map(|(call, numbers)| numbers.iter().map(move |number| format!("{call} refusal {number}")));
     let mut covered = true;
-    for wanted in refusals.chain(EVENTS.map(str::to_string)) {
+    for wanted in refusals.chain(EVENTS.map(str::to_string)).filter(|wanted| wanted.starts_with(|letter| letters.contains(letter))) {
         let count = census.counts.get(&wanted).copied().unwrap_or(0);
         if count < 2 {
             println!("{wanted}: {count} times, too few");

@@ -87,7 +87,7 @@ fn run(dice: &mut Dice, actions: usize) -> Vec<u8> {
 }
 
 /// A length beside the right one, or anywhere up to twice that much.
-fn wrong_length(dice: &mut Dice, right: usize) -> usize {
+pub fn wrong_length(dice: &mut Dice, right: usize) -> usize {
     let anywhere = dice.below(2 * right + 1);
     dice.pick(&[0, 1, right.saturating_sub(1), right + 1, right / 2, 2 * right, anywhere])
 }

@@ -2,6 +2,7 @@
 
 use crate::ask::Asker;
 use crate::dice::Dice;
+use crate::edits;
 use crate::families::{one_of_three, LIST, RUN, TABLES, VERDICT};
 use crate::handed::{Handed, NEXT};
 use crate::model::{Model, Shape, Sizes, ACTIONS, BOXES, CONDITIONS, FULL, STATES};
@@ -270,5 +271,5 @@ pub fn limits(asker: &mut Asker, dice: &mut Dice) -> io::Result<()> {
     for room in [0, 1, VERDICT - 1, VERDICT + 1, 2 * VERDICT] {
         asker.verdict(SMALL.as_bytes(), room)?;
     }
-    Ok(())
+    edits::limits(asker, dice)
 }
