@@ -10,3 +10,7 @@ pub mod Filled
 pub mod Copied
 pub mod Loops
 pub mod Tables
+pub mod Bits
+pub mod Chosen
+pub mod Firsts
+pub mod Grown

@@ -4,3 +4,4 @@ pub mod Range
 pub mod Lists
 pub mod Order
 pub mod Filled
+pub mod Bits

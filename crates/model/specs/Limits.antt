@@ -42,3 +42,9 @@ LIST-ENTRIES = 480
 
 abbrev pub VERDICT-BYTES : ℕ
 VERDICT-BYTES = 8192
+
+abbrev pub EDITS : ℕ
+EDITS = 32
+
+abbrev pub EDIT-WORDS : ℕ
+EDIT-WORDS = 192

@@ -43,6 +43,11 @@ pub const LIST_ENTRIES: usize = 480;
 
 pub const VERDICT_BYTES: usize = 8192;
 
+// The edits of a history, and the words that it takes, six to an edit.
+pub const EDITS: usize = 32;
+
+pub const EDIT_WORDS: usize = 192;
+
 // A machine: its sizes, the state it starts in, and for each action the position of its box.
 pub struct Machine {
     pub states: usize,

@@ -1,0 +1,12 @@
+pub mod Asked
+pub mod Found
+pub mod Words
+pub mod Past
+pub mod Fine
+pub mod Moved
+pub mod Gave
+pub mod Listed
+pub mod Restored
+pub mod Stays
+pub mod Fits
+pub mod Called
