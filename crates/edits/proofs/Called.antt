@@ -114,6 +114,10 @@ module _ (l : List BoxRecord) (c : ℕ) (w : List ℕ) (k : ℕ) (m : List BoxRe
   unfolding edited choose
   edited-long q ek em z = rw (ek, em, both-no (eqb (length l) BOXES) (ne-eqb (length w) EDIT-WORDS z))
 
+  pub edited-short : (q : Request) → k ≡ 10 → m ≡ l → (length l ≡ BOXES → ⊥) → outcome k m c w ≡ edited l (past c w) q
+  unfolding edited both choose
+  edited-short q ek em z = rw (ek, em, ne-eqb (length l) BOXES z)
+
   pub edited-bad : (q : Request) → k ≡ 12 → m ≡ l → length l ≡ BOXES → length w ≡ EDIT-WORDS → allowed l (past c w) ≡ false → outcome k m c w ≡ edited l (past c w) q
   unfolding edited choose
   edited-bad q ek em ll lw z = rw (ek, em, both-of (eq-eqb (length l) BOXES ll) (eq-eqb (length w) EDIT-WORDS lw), z)

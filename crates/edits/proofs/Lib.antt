@@ -10,3 +10,4 @@ pub mod Restored
 pub mod Stays
 pub mod Fits
 pub mod Called
+pub mod Again

@@ -7,6 +7,14 @@ mod changes;
 mod history;
 mod plans;
 
+ghost use mathlib.Core.Path.{_≡_};
+ghost use Prim.Native.Nat.{ℕ, _<_};
+ghost use lib.ListN.{length, set, replicate};
+ghost use Rattle.model.specs.Limits.{BOXES};
+ghost use Rattle.edits.specs.Records.{blank, at};
+ghost use Rattle.edits.specs.History.{past};
+ghost use Rattle.edits.specs.Edited.{asked, outcome, edited};
+
 // The kinds of a request; the first four are those of an entry, too.
 pub const ADD: u32 = 1;
 
@@ -48,4 +56,98 @@ pub struct Plan {
 pub struct Answer {
     pub number: u32,
     pub list: [BoxRecord; model::BOXES],
+}
+
+// The records by value.
+pub struct Loaded {
+    pub list: [BoxRecord; model::BOXES],
+}
+
+fn no_boxes() -> Loaded
+    ensures { λ r. ⌜ r .list ≡ replicate BOXES blank ⌝ }
+{
+    Loaded {
+        list: [BoxRecord {
+            id: 0,
+            live: 0,
+            arrows: 0,
+        }; model::BOXES],
+    }
+}
+
+fn put_record(boxes: Loaded, i: usize, item: BoxRecord) -> Loaded
+    requires { ⌜ i < BOXES ⌝ }
+    ensures { λ r. ⌜ r .list ≡ set (boxes .list) i item ⌝ }
+{
+    let mut changed = boxes;
+    changed.list[i] = item;
+    changed
+}
+
+fn record_of(answer: Answer, i: usize) -> BoxRecord
+    requires { ⌜ i < BOXES ⌝ }
+    ensures { λ r. ⌜ r ≡ at (answer .list) i ⌝ }
+{
+    answer.list[i]
+}
+
+// The records that are lent, by value.
+fn load(list: &mut [BoxRecord]) -> Loaded
+    requires { ⌜ length (now list) ≡ BOXES ⌝ }
+    ensures { λ r. ⌜ (r .list ≡ now (list .entry)) × (now (list .exit) ≡ now (list .entry)) ⌝ }
+{
+    let mut boxes = no_boxes();
+    let mut i = 0;
+    while i < model::BOXES {
+        let item = list[i];
+        boxes = put_record(boxes, i, item);
+        i += 1;
+    }
+    boxes
+}
+
+// The answer's records, given back.
+fn store(list: &mut [BoxRecord], answer: Answer)
+    requires { ⌜ length (now list) ≡ BOXES ⌝ }
+    ensures { λ _. ⌜ now (list .exit) ≡ answer .list ⌝ }
+{
+    let mut i = 0;
+    while i < model::BOXES {
+        list[i] = record_of(answer, i);
+        i += 1;
+    }
+}
+
+fn edit_boxes(
+    boxes: Loaded,
+    history: &mut [u32],
+    count: &mut u32,
+    kind: u32,
+    first: u32,
+    second: u32,
+) -> Answer
+    ensures { λ r. ⌜ outcome (r .number) (r .list) (now (count .exit)) (now (history .exit)) ≡ edited (boxes .list) (past (now (count .entry)) (now (history .entry))) (asked kind first second) ⌝ }
+{
+    let list = boxes.list;
+    call::edit_list(list, history, count, kind, first, second)
+}
+
+// One edit of a list and its history, which the host lends: 0, or the number of the refusal, by which nothing changes.
+pub fn edit(
+    list: &mut [BoxRecord],
+    history: &mut [u32],
+    count: &mut u32,
+    kind: u32,
+    first: u32,
+    second: u32,
+) -> u32
+    ensures { λ r. ⌜ outcome r (now (list .exit)) (now (count .exit)) (now (history .exit)) ≡ edited (now (list .entry)) (past (now (count .entry)) (now (history .entry))) (asked kind first second) ⌝ }
+{
+    if list.len() != model::BOXES {
+        return 10;
+    }
+    let boxes = load(&mut *list);
+    let answer = edit_boxes(boxes, &mut *history, &mut *count, kind, first, second);
+    store(&mut *list, answer);
+    answer.number
 }
