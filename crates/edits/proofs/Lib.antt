@@ -11,3 +11,6 @@ pub mod Stays
 pub mod Fits
 pub mod Called
 pub mod Again
+pub mod Promises
+pub mod Story
+pub mod Fakes

@@ -52,7 +52,7 @@ unskip-skip p k = ⊎-elim
     (λ (l : p ≤ k). rw (le-ltb k p l) (rw (le-ltb (k + 1) p (omega arith)) (omega arith)))
     (below-or k p)
 
-skip-unskip : (p k : ℕ) → (k ≡ p → ⊥) → skip p (unskip p k) ≡ k
+pub skip-unskip : (p k : ℕ) → (k ≡ p → ⊥) → skip p (unskip p k) ≡ k
 unfolding choose
 skip-unskip p k ne = ⊎-elim
     (λ (l : k < p). rw (lt-ltb k p l) (rw (lt-ltb k p l)))

@@ -8,3 +8,6 @@ pub mod Fits
 pub mod Edited
 pub mod Gives
 pub mod Private
+pub mod Promises
+pub mod Story
+pub mod Demand
