@@ -1,7 +1,8 @@
 //! Counts what the answers to a stream cover, and names what they lack.
 
+use crate::bounds::{ACTIONS, BOXES, EDITS, LABEL_BYTES, LARGEST_ID, PAIRS, RUN_ACTIONS, SHEET_BYTES, STATES};
 use crate::compare::Speaker;
-use crate::edits::{EDITS, FIELDS};
+use crate::edits::FIELDS;
 use crate::stream::{value, values, Message, Part, Step};
 use std::collections::BTreeMap;
 use std::fs::File;
@@ -25,13 +26,13 @@ const REFUSALS: [(&str, &[u64]); 13] = [
 ];
 
 const EVENTS: [&str; 51] = [
-    "R a sheet of 32,768 bytes read",
-    "R 128 states",
-    "R 32 actions",
-    "R 16 boxes",
-    "R the id 65535",
+    "R a sheet of the most bytes read",
+    "R the most states",
+    "R the most actions",
+    "R the most boxes",
+    "R the largest id",
     "L a label of 1 byte",
-    "L a label of 32 bytes",
+    "L a label of the most bytes",
     "J accepted",
     "J broken at output",
     "J broken at respect",
@@ -39,16 +40,16 @@ const EVENTS: [&str; 51] = [
     "J a full model",
     "N no needed arrow",
     "N 20 needed arrows or more",
-    "N all 240 arrows needed",
+    "N all arrows needed",
     "N depth 3 or more",
     "N depth 50 or more",
     "N states out of reach",
     "P plain: nothing kept",
     "P plain: something dropped",
-    "P plain: a run of 1,024 actions",
+    "P plain: a run of the most actions",
     "P intransitive: nothing kept",
     "P intransitive: something dropped",
-    "P intransitive: a run of 1,024 actions",
+    "P intransitive: a run of the most actions",
     "P intransitive keeps more than plain",
     "S all states reached",
     "S states out of reach",
@@ -104,28 +105,28 @@ impl Census {
         }
         match letter {
             b'R' => {
-                self.note(request.values("sheet").len() == 32_768, letter, "a sheet of 32,768 bytes read");
-                self.note(answer.value("states") == 128, letter, "128 states");
-                self.note(answer.value("actions") == 32, letter, "32 actions");
-                self.note(answer.value("boxes") == 16, letter, "16 boxes");
-                self.note(answer.values("ids").contains(&65_535), letter, "the id 65535");
+                self.note(request.values("sheet").len() == SHEET_BYTES, letter, "a sheet of the most bytes read");
+                self.note(answer.value("states") == STATES as u64, letter, "the most states");
+                self.note(answer.value("actions") == ACTIONS as u64, letter, "the most actions");
+                self.note(answer.value("boxes") == BOXES as u64, letter, "the most boxes");
+                self.note(answer.values("ids").contains(&LARGEST_ID), letter, "the largest id");
             }
             b'L' => {
                 let length = answer.values("label").len();
                 self.note(length == 1, letter, "a label of 1 byte");
-                self.note(length == 32, letter, "a label of 32 bytes");
+                self.note(length == LABEL_BYTES, letter, "a label of the most bytes");
             }
             b'J' => {
                 let place = ["accepted", "broken at output", "broken at respect", "broken at step"];
                 self.note(true, letter, place[answer.value("condition") as usize]);
-                let full = ["states", "actions", "boxes"].map(|size| request.value(size)) == [128, 32, 16];
+                let full = ["states", "actions", "boxes"].map(|size| request.value(size)) == [STATES, ACTIONS, BOXES].map(|most| most as u64);
                 self.note(full, letter, "a full model");
             }
             b'N' => {
                 let deepest = answer.values("depths").iter().max().copied().unwrap_or(0);
                 self.note(answer.value("pairs") == 0, letter, "no needed arrow");
                 self.note(answer.value("pairs") >= 20, letter, "20 needed arrows or more");
-                self.note(answer.value("pairs") == 240, letter, "all 240 arrows needed");
+                self.note(answer.value("pairs") == PAIRS as u64, letter, "all arrows needed");
                 self.note(deepest >= 3, letter, "depth 3 or more");
                 self.note(deepest >= 50, letter, "depth 50 or more");
                 self.note(answer.value("reach") < request.value("states"), letter, "states out of reach");
@@ -145,7 +146,7 @@ impl Census {
         let kind = ["plain", "intransitive"][request.value("kind") as usize];
         self.note(length > 0 && kept == 0, b'P', &format!("{kind}: nothing kept"));
         self.note(kept < length, b'P', &format!("{kind}: something dropped"));
-        self.note(length == 1_024, b'P', &format!("{kind}: a run of 1,024 actions"));
+        self.note(length == RUN_ACTIONS as u64, b'P', &format!("{kind}: a run of the most actions"));
         let same = request.parts.iter().filter(|part| part.name != "kind").flat_map(|part| part.values.iter().flat_map(|value| value.to_le_bytes()));
         let same: Vec<u8> = same.collect();
         self.note(kind == "intransitive" && self.plain.0 == same && kept > self.plain.1, b'P', "intransitive keeps more than plain");
@@ -181,7 +182,7 @@ impl Census {
         self.note(step.kind == 1 && step.first == 0, b'E', "the id 0 added");
         self.note(step.kind == 1 && step.first == u64::from(u32::MAX), b'E', "the id 4294967295 added");
         let arrows: u32 = values(after, "list").chunks(3).map(|record| record[2].count_ones()).sum();
-        self.note(arrows == 240, b'E', "a full list with every arrow");
+        self.note(arrows == PAIRS as u32, b'E', "a full list with every arrow");
         let edits: Vec<&[u64]> = values(before, "history").chunks(FIELDS).collect();
         let count = value(before, "edits") as usize;
         let beyond = edits.iter().skip(count + 1).any(|edit| edit.iter().any(|&word| word != 0));

@@ -1,15 +1,13 @@
 //! Edits: drawings as the calls are handed them, what can be wrong with them, and the steps that are asked.
 
 use crate::ask::Asker;
+use crate::bounds::{BOXES, EDITS, EDIT_WORDS};
 use crate::dice::Dice;
 use crate::families::wrong_length;
-use crate::model::BOXES;
 use std::io;
 
-pub const EDITS: usize = 32;
 /// The words of an edit: kind, at, to, id, out, into.
 pub const FIELDS: usize = 6;
-const WORDS: usize = EDITS * FIELDS;
 
 type Entry = [u32; FIELDS];
 
@@ -96,7 +94,7 @@ fn any_entry(dice: &mut Dice, ids: &mut Vec<u32>, live: usize) -> Entry {
 
 impl Drawing {
     fn fresh() -> Drawing {
-        Drawing { records: vec![[0; 3]; BOXES], history: vec![0; WORDS], edits: 0 }
+        Drawing { records: vec![[0; 3]; BOXES], history: vec![0; EDIT_WORDS], edits: 0 }
     }
 
     /// Keeps the rules, though no calls may have built it, and its last edit fits the list.
@@ -215,7 +213,7 @@ fn each_call(dice: &mut Dice, ids: &[u32]) -> Vec<Step> {
 /// The host writes something, a few calls follow, and then it writes what is mostly good there.
 fn meddling(dice: &mut Dice, ids: &[u32]) -> Vec<Step> {
     let place = dice.below(3 * BOXES + 2) as u32;
-    let word = dice.below(WORDS + 2) as u32;
+    let word = dice.below(EDIT_WORDS + 2) as u32;
     let (mut steps, mended) = match dice.below(3) {
         0 => (vec![WriteList(place, written(dice))], WriteList(place, [UNKNOWN + place, 1, 0][place as usize % 3])),
         1 => (vec![WriteHistory(word, written(dice)), WriteCount(word / FIELDS as u32 + 1)], WriteCount(0)),
@@ -261,7 +259,7 @@ pub fn edits(asker: &mut Asker, dice: &mut Dice) -> io::Result<()> {
             if dice.one_in(2) {
                 drawing.records.resize(wrong_length(dice, BOXES), [0; 3]);
             } else {
-                drawing.history.resize(wrong_length(dice, WORDS), 0);
+                drawing.history.resize(wrong_length(dice, EDIT_WORDS), 0);
             }
             each_call(dice, &ids)
         }
@@ -307,9 +305,9 @@ fn full(asker: &mut Asker) -> io::Result<()> {
 
 /// Each length of the list and of the history, with a good and a bad count.
 fn lengths(asker: &mut Asker, dice: &mut Dice) -> io::Result<()> {
-    let records = (0..=2 * BOXES + 1).map(|length| (length, WORDS));
-    let words = [0, 1, FIELDS, WORDS - FIELDS, WORDS - 1, WORDS, WORDS + 1, WORDS + FIELDS, 2 * WORDS].iter().map(|&length| (BOXES, length));
-    for (records, words) in records.chain(words).chain([(0, 0), (WORDS, BOXES)]) {
+    let records = (0..=2 * BOXES + 1).map(|length| (length, EDIT_WORDS));
+    let words = [0, 1, FIELDS, EDIT_WORDS - FIELDS, EDIT_WORDS - 1, EDIT_WORDS, EDIT_WORDS + 1, EDIT_WORDS + FIELDS, 2 * EDIT_WORDS].iter().map(|&length| (BOXES, length));
+    for (records, words) in records.chain(words).chain([(0, 0), (EDIT_WORDS, BOXES)]) {
         for edits in [0, EDITS as u32 + 1] {
             let drawing = Drawing { records: vec![[0; 3]; records], history: vec![0; words], edits };
             asker.edits(&drawing, &each_call(dice, &IDS))?;

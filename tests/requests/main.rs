@@ -11,6 +11,8 @@
 use std::io::{self, Write};
 
 mod ask;
+#[path = "../limits.rs"]
+mod bounds;
 mod census;
 mod compare;
 mod dice;

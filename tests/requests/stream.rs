@@ -1,5 +1,6 @@
 //! Reads requests and answers by the layout of tests/README.md, and shows them to people.
 
+use crate::bounds::{ACTIONS, ARROWS, BOXES, STATES};
 use crate::edits::FIELDS;
 use std::fmt::Write as _;
 use std::io::{self, Read};
@@ -21,8 +22,8 @@ use Layout::{Bytes, History, Numbers, Records, Steps, Table, Text};
 type Parts = &'static [(&'static str, Layout)];
 
 const MACHINE: Parts =
-    &[("states", Numbers(1, 8)), ("actions", Numbers(1, 8)), ("boxes", Numbers(1, 8)), ("start", Numbers(1, 8)), ("owners", Numbers(32, 1))];
-const LISTS: Parts = &[("ids", Numbers(16, 4)), ("arrows", Numbers(256, 1))];
+    &[("states", Numbers(1, 8)), ("actions", Numbers(1, 8)), ("boxes", Numbers(1, 8)), ("start", Numbers(1, 8)), ("owners", Numbers(ACTIONS, 1))];
+const LISTS: Parts = &[("ids", Numbers(BOXES, 4)), ("arrows", Numbers(ARROWS, 1))];
 const REFUSAL: Parts = &[("number", Numbers(1, 4)), ("line", Numbers(1, 4))];
 const NEXT: Parts = &[("next", Table)];
 const OUTPUTS: Parts = &[("outputs", Table)];
@@ -49,7 +50,7 @@ fn answer_parts(letter: u8) -> &'static [Parts] {
         b'R' => &[
             REFUSAL,
             &[("states", Numbers(1, 8)), ("actions", Numbers(1, 8)), ("boxes", Numbers(1, 8)), ("start", Numbers(1, 8))],
-            &[("ids", Numbers(16, 4)), ("owners", Numbers(32, 1)), ("arrows", Numbers(256, 1))],
+            &[("ids", Numbers(BOXES, 4)), ("owners", Numbers(ACTIONS, 1)), ("arrows", Numbers(ARROWS, 1))],
             NEXT,
             OUTPUTS,
             VIEWS,
@@ -59,9 +60,9 @@ fn answer_parts(letter: u8) -> &'static [Parts] {
             REFUSAL,
             &[("condition", Numbers(1, 1)), ("box", Numbers(1, 8)), ("action", Numbers(1, 8)), ("s", Numbers(1, 8)), ("t", Numbers(1, 8))],
         ],
-        b'N' => &[REFUSAL, &[("pairs", Numbers(1, 8)), ("reach", Numbers(1, 8)), ("depths", Numbers(16, 8)), ("list", Table)]],
+        b'N' => &[REFUSAL, &[("pairs", Numbers(1, 8)), ("reach", Numbers(1, 8)), ("depths", Numbers(BOXES, 8)), ("list", Table)]],
         b'P' => &[REFUSAL, &[("kept", Numbers(1, 8)), ("buffer", Bytes)]],
-        b'S' => &[REFUSAL, &[("count", Numbers(1, 8)), ("flags", Numbers(128, 1))]],
+        b'S' => &[REFUSAL, &[("count", Numbers(1, 8)), ("flags", Numbers(STATES, 1))]],
         b'E' => &[&[("number", Numbers(1, 4))], DRAWING],
         _ => &[&[("length", Numbers(1, 8)), ("verdict", Text)]],
     }
@@ -266,7 +267,7 @@ impl Part {
     fn shown_as_arrows(&self) -> String {
         let mut shown = String::from("arrows:");
         for (place, _) in self.values.iter().enumerate().filter(|&(_, &arrow)| arrow != 0) {
-            let _ = write!(shown, " {}>{}", place / 16, place % 16);
+            let _ = write!(shown, " {}>{}", place / BOXES, place % BOXES);
         }
         shown
     }
