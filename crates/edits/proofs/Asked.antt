@@ -1,7 +1,7 @@
 -- What is asked for by a kind and two ids, and the plan of it.
 -- Assumes nothing.
 use mathlib.Core.Path.{_≡_, refl, sym, ap, _∙_}
-use mathlib.Core.Bool.{Bool, true, false}
+use mathlib.Core.Bool.{true, false}
 use mathlib.Core.List.{List}
 use Prim.Native.Nat.{ℕ, _≤_, _<_}
 use native.Mathlib.Omega.{arith}
@@ -15,7 +15,6 @@ use Rattle.edits.specs.Plan.{Change, Add, Delete, Draw, Erase, no, planC
 use Rattle.edits.specs.Edited.{Request, Make, Undo, Drop, Unknown, UNDO, DROP, asked}
 use Rattle.edits.specs.Private.{planOf}
 use Rattle.edits.specs.declared.BoxRecord.{BoxRecord}
-use Rattle.edits.specs.declared.Plan.{Plan}
 
 -- what the code compared, r, was read at x
 pub as-eqb : {r : ℕ} (x y : ℕ) → r ≡ x → r ≡ y → eqb x y ≡ true

@@ -1,26 +1,25 @@
 -- What each way through a call comes to, and what the calls below it ask for.
 -- Assumes nothing.
 use mathlib.Core.Path.{_≡_, refl, sym, ap, _∙_, subst}
-use mathlib.Core.Bool.{Bool, true, false}
+use mathlib.Core.Bool.{true, false}
 use mathlib.Core.List.{List}
-use Prim.Native.Nat.{ℕ, _+_, _-_, _<_, _≤_, _^_}
+use Prim.Native.Nat.{ℕ, _+_, _-_, _<_, _≤_}
 use native.Mathlib.Omega.{arith}
 use lib.ListN.{length}
-use lib.Dec.{eqb}
+use lib.Dec.{eqb, ltb}
 use borrow.Author.Tests.{eq-eqb, ne-eqb, leb-true, ltb-true, ltb-false, eqb-true}
-use lib.Dec.{ltb}
 use Rattle.laws.specs.Choice.{both, choose}
 use Rattle.laws.specs.Bits.{bit}
 use Rattle.laws.proofs.Tests.{by-test, both-true, both-of, both-no}
 use Rattle.laws.proofs.Bits.{power-small, power-pos}
 use Rattle.model.specs.Limits.{BOXES, EDITS, EDIT-WORDS}
-use Rattle.edits.specs.Records.{blank, at, boxes}
+use Rattle.edits.specs.Records.{at, boxes}
 use Rattle.edits.specs.History.{History, past, ADD, DELETE, DRAW, none, entry, newest, ending, fresh}
 use Rattle.edits.specs.Allowed.{allowed}
-use Rattle.edits.specs.Plan.{Change, no, plan, added, deletion, arrow}
+use Rattle.edits.specs.Plan.{plan}
 use Rattle.edits.specs.Done.{done, undone}
 use Rattle.edits.specs.Fits.{fits}
-use Rattle.edits.specs.Edited.{Request, Make, Undo, Drop, Unknown, UNDO, DROP, asked, Edited, outcome, accepted, refused, planned, undo, answered, edited}
+use Rattle.edits.specs.Edited.{Request, Make, Undo, Drop, Unknown, UNDO, DROP, asked, Edited, outcome, accepted, planned, undo, answered, edited}
 use Rattle.edits.specs.Private.{Small, Between, Doable, Undoable, planOf}
 use Rattle.edits.specs.declared.BoxRecord.{BoxRecord}
 use Rattle.edits.specs.declared.Entry.{Entry}
@@ -28,7 +27,7 @@ use Rattle.edits.specs.declared.Plan.{Plan}
 use Rattle.edits.proofs.Asked.{Kind, asked-is, add, delete, draw, erase, undo as is-undo, drop as is-drop, unknown, asked-undo, asked-drop}
 use Rattle.edits.proofs.Words.{kept-none}
 use Rattle.edits.proofs.Found.{boxes-most}
-use Rattle.edits.proofs.Fine.{Listed, Sound, sound}
+use Rattle.edits.proofs.Fine.{Listed, sound}
 use Rattle.edits.proofs.Gave.{Gave, adding, deleting, drawing, erasing, plan-gave}
 
 -- ---- what an allowed list has

@@ -1,35 +1,30 @@
 -- The demand on edits: ours meets it, and the old fault does not, whichever way it is built.
 -- Assumes nothing.
-use mathlib.Core.Path.{_≡_, refl, sym, ap, _∙_, subst}
-use mathlib.Core.Bool.{Bool, true, false}
-use mathlib.Core.List.{List, [], _∷_}
-use Prim.Native.Nat.{ℕ, zero, suc, _+_, _-_, _*_, _<_, _≤_}
+use mathlib.Core.Path.{_≡_, refl, sym, ap, _∙_}
+use mathlib.Core.List.{List, _∷_}
+use Prim.Native.Nat.{ℕ, _+_, _-_, _<_}
 use native.Mathlib.Omega.{arith}
-use lib.ListN.{getD, replicate, set}
-use lib.Dec.{ltb, eqb}
-use borrow.Author.Tests.{ltb-true, ltb-false}
+use lib.ListN.{replicate}
 use Rattle.laws.specs.Choice.{both, either, brings, choose}
 use Rattle.laws.specs.Range.{every, some, first, tabulate}
 use Rattle.laws.specs.Bits.{bit, cut, put, gather}
-use Rattle.laws.proofs.Tests.{by-test}
 use Rattle.laws.proofs.Tables.{zero-at}
 use Rattle.model.specs.Limits.{BOXES, EDIT-WORDS}
 use Rattle.edits.specs.Records.{blank, at, boxes, place}
-use Rattle.edits.specs.History.{History, past, DELETE, FIELDS, fresh, entry, endingAt, ending, deletedBy, newest, keep, push}
+use Rattle.edits.specs.History.{History, fresh, entry, endingAt, ending, deletedBy, newest, keep, push}
 use Rattle.edits.specs.Allowed.{made, goodEntry, goodAt, allowed}
-use Rattle.edits.specs.Moved.{withArrows, skip, columnOf, leftAt, withoutBox, withBox}
-use Rattle.edits.specs.Plan.{Change, Add, Delete, Draw, Erase, deletion, plan}
-use Rattle.edits.specs.Done.{newBox, done, undone}
-use Rattle.edits.specs.Edited.{Request, Make, Undo, Drop, Unknown, Edited, accepted, fitting, edited, planned}
+use Rattle.edits.specs.Moved.{withArrows, skip, columnOf, withoutBox, withBox, unskip}
+use Rattle.edits.specs.Plan.{Add, Delete, Draw, Erase, deletion, plan}
+use Rattle.edits.specs.Done.{newBox, done}
+use Rattle.edits.specs.Edited.{Make, Undo, Drop, Unknown, Edited, accepted, edited, planned}
 use Rattle.edits.specs.Demand.{Answers, Tidy, between, Demand}
 use Rattle.edits.specs.declared.BoxRecord.{BoxRecord}
 use Rattle.edits.specs.declared.Entry.{Entry}
-use Rattle.edits.proofs.Found.{known, place-live, below-or}
+use Rattle.edits.proofs.Found.{place-live}
 use Rattle.edits.proofs.Fine.{Listed, listed-live, listed-place}
 use Rattle.edits.proofs.Listed.{left-id, listed-without}
-use Rattle.edits.proofs.Moved.{skip-before, skip-behind, left-is, bit-skip}
+use Rattle.edits.proofs.Moved.{left-is, bit-skip}
 use Rattle.edits.proofs.Restored.{skip-unskip, unskip-below}
-use Rattle.edits.specs.Moved.{unskip}
 use Rattle.edits.proofs.Promises.{undo-good-exact, delete-plan, took, found}
 
 -- ---- ours

@@ -1,16 +1,14 @@
 -- An allowed list, in facts.
 -- Assumes nothing.
 use mathlib.Core.Path.{_≡_, refl, sym, ap, _∙_}
-use mathlib.Core.Bool.{Bool, true, false, not}
+use mathlib.Core.Bool.{true, false, not}
 use mathlib.Core.List.{List}
 use mathlib.Core.Logic.{⊎-elim}
 use Prim.Native.Nat.{ℕ, _<_, _≤_, _^_}
 use native.Mathlib.Omega.{arith}
 use lib.ListN.{length, List·getD-eq-default}
-use lib.Dec.{ltb, leb, eqb}
 use borrow.Author.Tests.{ltb-true, lt-ltb, le-ltb, leb-true, le-leb, eqb-true, eq-eqb, ne-eqb, not-true}
 use Rattle.laws.specs.Choice.{both, choose}
-use Rattle.laws.specs.Range.{every}
 use Rattle.laws.specs.Bits.{bit}
 use Rattle.laws.proofs.Tests.{both-true, both-of, both-no, false-of}
 use Rattle.laws.proofs.Range.{every-at, every-of, first-at, first-none}

@@ -1,37 +1,35 @@
 -- The closed form of undo's refusal: an entry fits a list exactly where some list, allowed beside the rest of the history, gives it by that entry.
 -- Assumes nothing.
 use mathlib.Core.Path.{_≡_, refl, sym, ap, _∙_, subst}
-use mathlib.Core.Bool.{Bool, true, false, not}
+use mathlib.Core.Bool.{true, false}
 use mathlib.Core.List.{List}
-use Prim.Native.Nat.{ℕ, suc, _+_, _-_, _<_, _≤_, _^_}
+use Prim.Native.Nat.{ℕ, _+_, _-_, _<_, _≤_, _^_}
 use native.Mathlib.Omega.{arith}
 use lib.ListN.{length, set}
 use lib.Seq.{set-set, set-getD}
-use lib.Dec.{ltb, leb, eqb}
+use lib.Dec.{ltb, eqb}
 use borrow.Author.Tests.{ltb-true, ltb-false, lt-ltb, le-ltb, leb-true, le-leb, eqb-true, eqb-false, eq-eqb, ne-eqb, not-true}
-use Rattle.laws.specs.Choice.{both, choose}
+use Rattle.laws.specs.Choice.{choose}
 use Rattle.laws.specs.Bits.{bit}
-use Rattle.laws.proofs.Tests.{by-test, not-both, both-true, both-of, brings-at, choose-yes, choose-no}
-use Rattle.laws.proofs.Chosen.{chosen}
-use Rattle.laws.proofs.Bits.{bit-none, bit-high, bit-drawn, bit-erased, bit-part, bit-draw, bit-erase, draw-small, power-small}
+use Rattle.laws.proofs.Tests.{by-test, not-both, both-true, both-of, brings-at}
+use Rattle.laws.proofs.Bits.{bit-none, bit-high, bit-drawn, bit-erased, bit-part, bit-draw, bit-erase, draw-small}
 use Rattle.model.specs.Limits.{BOXES, EDITS}
 use Rattle.edits.specs.Records.{blank, at, boxes, place}
-use Rattle.edits.specs.History.{History, ADD, DELETE, DRAW, ERASE, entry, newest, rest, deleted, deletedBy}
-use Rattle.edits.specs.Allowed.{madeAdd, madeDelete, madeArrow, made, goodEntry, allowed}
+use Rattle.edits.specs.History.{History, ADD, DELETE, DRAW, ERASE, entry, newest, rest, deleted}
+use Rattle.edits.specs.Allowed.{madeArrow, made, goodEntry, allowed}
 use Rattle.edits.specs.Moved.{withArrows, columnOf, withoutBox, withBox}
-use Rattle.edits.specs.Plan.{Change, Add, Delete, Draw, Erase, yes, no, added, deletion, arrow, planArrow, planChange, plan}
-use Rattle.edits.specs.Done.{newBox, drawn, erased, done, undone}
+use Rattle.edits.specs.Plan.{Change, Add, Delete, Draw, Erase, yes, added, deletion, arrow, planArrow, planChange, plan}
+use Rattle.edits.specs.Done.{newBox, done, undone}
 use Rattle.edits.specs.Fits.{fitsAdd, fitsDelete, fitsArrow, fits}
 use Rattle.edits.specs.Gives.{Gives}
 use Rattle.edits.specs.declared.BoxRecord.{BoxRecord}
 use Rattle.edits.specs.declared.Entry.{Entry}
 use Rattle.edits.specs.declared.Plan.{Plan}
-use Rattle.edits.proofs.Found.{boxes-most, place-most}
 use Rattle.edits.proofs.Past.{deleted-fewer, deleted-at}
 use Rattle.edits.proofs.Fine.{Listed, Sound, sound, sound-allowed, listed-boxes, listed-live, listed-place, listed-none}
-use Rattle.edits.proofs.Moved.{column-bit, back-long}
-use Rattle.edits.proofs.Gave.{Gave, adding, deleting, drawing, erasing, plan-gave, done-long, add-boxes, back}
-use Rattle.edits.proofs.Listed.{by-place, column-none, column-within, at-same, at-other, listed-add, changed-here, changed-id, listed-arrows, listed-without}
+use Rattle.edits.proofs.Moved.{column-bit}
+use Rattle.edits.proofs.Gave.{Gave, adding, deleting, drawing, erasing, plan-gave, add-boxes, back}
+use Rattle.edits.proofs.Listed.{by-place, column-none, column-within, at-same, at-other, changed-here, changed-id, listed-arrows, listed-without}
 use Rattle.edits.proofs.Restored.{unskip-below, listed-last, put-here, put-id, listed-with, column-with, without-with}
 
 -- ---- what was done fits

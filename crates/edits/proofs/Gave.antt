@@ -1,7 +1,7 @@
 -- The entries that are made of a list, and that undoing one gives the list before.
 -- Assumes nothing.
 use mathlib.Core.Path.{_≡_, refl, sym, ap, _∙_}
-use mathlib.Core.Bool.{Bool, true, false}
+use mathlib.Core.Bool.{false}
 use mathlib.Core.List.{List}
 use Prim.Native.Nat.{ℕ, _+_, _-_, _<_, _≤_, _^_}
 use native.Mathlib.Omega.{arith}
@@ -17,13 +17,13 @@ use Rattle.laws.proofs.Bits.{bit-part}
 use Rattle.model.specs.Limits.{BOXES, EDITS}
 use Rattle.edits.specs.Records.{blank, at, boxes, place}
 use Rattle.edits.specs.History.{History, DRAW, ERASE, deleted}
-use Rattle.edits.specs.Moved.{withArrows, withoutBox, withBox}
-use Rattle.edits.specs.Plan.{Change, Add, Delete, Draw, Erase, no, yes, added, deletion, arrow, planArrow, planChange, plan}
-use Rattle.edits.specs.Done.{newBox, drawn, erased, done, undone}
+use Rattle.edits.specs.Moved.{withArrows}
+use Rattle.edits.specs.Plan.{Change, Add, Delete, Draw, Erase, added, deletion, arrow, planArrow, planChange, plan}
+use Rattle.edits.specs.Done.{newBox, done, undone}
 use Rattle.edits.specs.declared.BoxRecord.{BoxRecord}
 use Rattle.edits.specs.declared.Entry.{Entry}
 use Rattle.edits.specs.declared.Plan.{Plan}
-use Rattle.edits.proofs.Found.{boxes-most, lives-at, boxes-are, place-live, known}
+use Rattle.edits.proofs.Found.{boxes-most, boxes-are, place-live, known}
 use Rattle.edits.proofs.Moved.{left-long, with-without}
 use Rattle.edits.proofs.Fine.{Listed}
 

@@ -1,32 +1,26 @@
 -- Lists of boxes stay such: one box more at the end, other arrows, one box less, a box put in.
 -- Assumes nothing.
 use mathlib.Core.Path.{_≡_, refl, sym, ap, _∙_, subst}
-use mathlib.Core.Bool.{Bool, true, false}
 use mathlib.Core.List.{List}
 use mathlib.Core.Logic.{⊎-elim, _⊎_}
-use Prim.Native.Nat.{ℕ, zero, suc, _+_, _-_, _<_, _≤_, _^_}
-use native.Mathlib.Nat.{pow-suc, eq-or-lt-of-le}
-use native.Mathlib.Numerals.{add-one}
+use Prim.Native.Nat.{ℕ, suc, _+_, _-_, _<_, _≤_, _^_}
+use native.Mathlib.Nat.{eq-or-lt-of-le}
 use native.Mathlib.Omega.{arith}
-use borrow.Author.Count.{below-more}
 use lib.ListN.{length, set, length-set, List·getD-eq-default}
 use lib.Seq.{getD-set-same, getD-set-other}
-use lib.Dec.{ltb, eqb}
-use borrow.Author.Tests.{ltb-true, ltb-false, lt-ltb, le-ltb, eqb-true, eqb-false, eq-eqb, ne-eqb}
-use Rattle.laws.specs.Choice.{choose}
-use Rattle.laws.specs.Bits.{bit, cut, put, gather}
+use lib.Dec.{eqb}
+use borrow.Author.Tests.{eqb-true, eqb-false}
+use Rattle.laws.specs.Bits.{bit, gather}
 use Rattle.laws.proofs.Tests.{by-test}
-use Rattle.laws.proofs.Chosen.{chosen}
-use Rattle.laws.proofs.Tables.{tabulated}
-use Rattle.laws.proofs.Bits.{bit-below, bit-none, bit-high, power-pos, power-small, small-without, cut-none, cut-small, put-none, put-small, bit-put, bit-put-below, bit-put-above, cut-put, gather-same, gather-bits, gather-below}
+use Rattle.laws.proofs.Bits.{bit-below, bit-none, power-pos, power-small, cut-none, cut-small, gather-below}
 use Rattle.model.specs.Limits.{BOXES}
-use Rattle.edits.specs.Records.{blank, at, boxes}
-use Rattle.edits.specs.Moved.{withArrows, skip, unskip, arrowInto, columnOf, leftAt, withoutBox, backAt, withBox}
+use Rattle.edits.specs.Records.{blank, at}
+use Rattle.edits.specs.Moved.{withArrows, skip, arrowInto, columnOf, leftAt, withoutBox}
 use Rattle.edits.specs.Done.{newBox}
 use Rattle.edits.specs.declared.BoxRecord.{BoxRecord}
 use Rattle.edits.proofs.Found.{below-or}
-use Rattle.edits.proofs.Fine.{Listed, listed-live}
-use Rattle.edits.proofs.Moved.{skip-before, skip-behind, skip-apart, skip-below, skip-one, bit-skip, left-is, left-long, back-is, back-long}
+use Rattle.edits.proofs.Fine.{Listed}
+use Rattle.edits.proofs.Moved.{skip-behind, skip-below, skip-one, bit-skip, left-is, left-long}
 
 -- a fact at k, by whether k is i
 pub by-place : (i k : ℕ) (P : ℕ → Type 0) → P i → ((k ≡ i → ⊥) → P k) → P k

@@ -1,24 +1,23 @@
 -- A deleted box, put back where it stood with its arrows, is as it was; and so is the list when one that was put in is deleted.
 -- Assumes nothing.
-use mathlib.Core.Path.{_≡_, refl, sym, ap, _∙_}
-use mathlib.Core.Bool.{Bool, true, false}
+use mathlib.Core.Path.{_≡_, sym, ap, _∙_}
 use mathlib.Core.List.{List}
 use mathlib.Core.Logic.{⊎-elim}
-use Prim.Native.Nat.{ℕ, suc, _+_, _-_, _<_, _≤_, _^_}
+use Prim.Native.Nat.{ℕ, _+_, _-_, _<_, _≤_, _^_}
 use native.Mathlib.Nat.{eq-or-lt-of-le}
 use native.Mathlib.Numerals.{add-one}
 use native.Mathlib.Omega.{arith}
-use lib.ListN.{length, getD}
-use lib.Dec.{ltb, eqb}
+use lib.ListN.{length}
+use lib.Dec.{ltb}
 use borrow.Author.Tests.{ltb-true, ltb-false, lt-ltb, le-ltb, eq-eqb, ne-eqb}
 use Rattle.laws.specs.Choice.{choose}
-use Rattle.laws.specs.Bits.{bit, cut, put, gather}
+use Rattle.laws.specs.Bits.{bit, cut, put}
 use Rattle.laws.proofs.Chosen.{chosen}
 use Rattle.laws.proofs.Tables.{length-tabulate, tabulate-at, tabulated}
 use Rattle.laws.proofs.Bits.{bit-below, put-cut, bit-gather, gather-small, bit-cut-below, bit-cut-above}
 use Rattle.model.specs.Limits.{BOXES}
 use Rattle.edits.specs.Records.{blank, at}
-use Rattle.edits.specs.Moved.{withArrows, skip, unskip, arrowInto, columnOf, leftAt, withoutBox, backAt, withBox}
+use Rattle.edits.specs.Moved.{withArrows, skip, arrowInto, columnOf, leftAt, withoutBox, backAt, withBox}
 use Rattle.edits.specs.declared.BoxRecord.{BoxRecord}
 use Rattle.edits.proofs.Found.{below-or}
 

@@ -1,20 +1,16 @@
 -- The history: only its first entries count, and what one entry more does to it.
 -- Assumes nothing.
 use mathlib.Core.Path.{_≡_, refl, sym, ap, _∙_}
-use mathlib.Core.Bool.{Bool, true, false, not}
+use mathlib.Core.Bool.{true, false, not}
 use mathlib.Core.List.{List}
-use Prim.Native.Nat.{ℕ, _+_, _-_, _<_, _≤_}
+use Prim.Native.Nat.{ℕ, _+_, _<_, _≤_}
 use native.Mathlib.Omega.{arith}
 use borrow.Author.Count.{below-more}
-use lib.ListN.{length, getD}
-use lib.Dec.{leb, eqb}
 use borrow.Author.Tests.{leb-true, eqb-true, eq-eqb}
-use Rattle.laws.specs.Choice.{both, brings}
-use Rattle.laws.specs.Range.{some}
-use Rattle.laws.proofs.Tests.{by-test, not-both, false-of, both-true, both-of, brings-of}
+use Rattle.laws.proofs.Tests.{not-both, false-of, both-true, both-of, brings-of}
 use Rattle.laws.proofs.Range.{some-same, some-none, some-of}
-use Rattle.model.specs.Limits.{EDITS, EDIT-WORDS}
-use Rattle.edits.specs.History.{History, DELETE, FIELDS, entry, none, ending, keep, push, rest, takes, deletedBy, deleted}
+use Rattle.model.specs.Limits.{EDITS}
+use Rattle.edits.specs.History.{History, DELETE, entry, push, takes, deletedBy, deleted}
 use Rattle.edits.specs.Allowed.{made, goodEntry}
 use Rattle.edits.specs.declared.Entry.{Entry}
 use Rattle.edits.proofs.Words.{entry-before, entry-new}

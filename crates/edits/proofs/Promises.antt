@@ -1,37 +1,37 @@
 -- The promises of `specs/Promises`.
 -- Assumes nothing.
 use mathlib.Core.Path.{_≡_, refl, sym, ap, _∙_, subst}
-use mathlib.Core.Bool.{Bool, true, false}
+use mathlib.Core.Bool.{true, false}
 use mathlib.Core.List.{List}
-use Prim.Native.Nat.{ℕ, suc, _+_, _-_, _*_, _<_, _≤_}
+use Prim.Native.Nat.{ℕ, _+_, _-_, _*_, _<_, _≤_}
 use native.Mathlib.Omega.{arith}
-use lib.ListN.{length, getD, set, replicate, length-set, length-replicate}
+use lib.ListN.{length, getD, set, replicate, length-replicate}
 use lib.Seq.{getD-set-same}
 use lib.Dec.{ltb, eqb}
 use borrow.Author.Tests.{eq-eqb, ne-eqb, le-ltb, eqb-true, eqb-false}
 use Rattle.laws.specs.Choice.{both, choose}
 use Rattle.laws.proofs.Tests.{by-test, not-both, both-true, both-of}
 use Rattle.laws.proofs.Chosen.{chosen}
-use Rattle.laws.specs.Range.{every, first, some}
+use Rattle.laws.specs.Range.{every, first}
 use Rattle.laws.proofs.Range.{some-none}
 use Rattle.laws.proofs.Tables.{zero-at}
 use Rattle.model.specs.Limits.{BOXES, EDITS, EDIT-WORDS}
 use Rattle.edits.specs.Records.{blank, at, boxes, place}
 use Rattle.edits.specs.History.{History, past, FIELDS, none, entry, ending, push, keep, newest, rest, fresh, deleted, deletedBy}
-use Rattle.edits.specs.Allowed.{goodEntry, goodAt, allowed}
-use Rattle.edits.specs.Moved.{withoutBox, withBox}
-use Rattle.edits.specs.Plan.{Change, Add, Delete, no, yes, added, deletion, planChange, plan}
+use Rattle.edits.specs.Allowed.{goodAt, allowed}
+use Rattle.edits.specs.Moved.{withoutBox}
+use Rattle.edits.specs.Plan.{Change, Add, Delete, yes, added, deletion, plan}
 use Rattle.edits.specs.Done.{newBox, done, undone}
 use Rattle.edits.specs.Fits.{fits}
 use Rattle.edits.specs.Gives.{Gives}
-use Rattle.edits.specs.Edited.{Request, Make, Undo, Drop, Unknown, Edited, refused, accepted, planned, undo, answered, fitting, edited}
+use Rattle.edits.specs.Edited.{Request, Make, Undo, Drop, Unknown, Edited, accepted, planned, undo, answered, fitting, edited}
 use Rattle.edits.specs.Promises.{Built, nothing, more, Changed, begun, next, after, UndoExact, UndoAll, UndoAny, Unique, OnlyOne, FitsExactly, UndoFinds, UndoRefuses, NotAgain, RoomAgain, RefusedSame, DropKeeps, StaysAllowed}
 use Rattle.edits.specs.declared.BoxRecord.{BoxRecord}
 use Rattle.edits.specs.declared.Entry.{Entry}
 use Rattle.edits.specs.declared.Plan.{Plan}
 use Rattle.edits.proofs.Words.{entry-before, ending-long, words-behind, words-kept, kept-same, ending-twice}
 use Rattle.edits.proofs.Past.{push-new, entry-same, deleted-same}
-use Rattle.edits.proofs.Fine.{Listed, Sound, sound, sound-allowed, listed-boxes, listed-live}
+use Rattle.edits.proofs.Fine.{Sound, sound, sound-allowed, listed-boxes, listed-live}
 use Rattle.edits.proofs.Found.{boxes-most, place-live, known}
 use Rattle.edits.proofs.Gave.{Gave, plan-gave, plan-room, done-long, back}
 use Rattle.edits.proofs.Listed.{listed-without}

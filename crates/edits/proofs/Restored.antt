@@ -1,23 +1,22 @@
 -- Lists before an edit: without the last box, or with a box put in at p.
 -- Assumes nothing.
 use mathlib.Core.Path.{_≡_, refl, sym, ap, _∙_}
-use mathlib.Core.Bool.{Bool, true, false}
 use mathlib.Core.List.{List}
 use mathlib.Core.Logic.{⊎-elim}
 use Prim.Native.Nat.{ℕ, suc, _+_, _-_, _<_, _≤_, _^_}
 use native.Mathlib.Numerals.{add-one}
 use native.Mathlib.Omega.{arith}
-use lib.ListN.{length, set, length-set, List·getD-eq-default}
-use lib.Dec.{ltb, eqb}
+use lib.ListN.{set, length-set, List·getD-eq-default}
+use lib.Dec.{ltb}
 use borrow.Author.Tests.{ltb-true, ltb-false, lt-ltb, le-ltb, eq-eqb, ne-eqb}
 use Rattle.laws.specs.Choice.{choose}
-use Rattle.laws.specs.Bits.{bit, cut, put, gather}
+use Rattle.laws.specs.Bits.{bit, put}
 use Rattle.laws.proofs.Chosen.{chosen}
 use Rattle.laws.proofs.Tables.{tabulated}
 use Rattle.laws.proofs.Bits.{bit-below, bit-high, power-small, small-without, cut-none, put-none, put-small, bit-put, bit-put-below, bit-put-above, cut-put, gather-same, gather-bits}
 use Rattle.model.specs.Limits.{BOXES}
 use Rattle.edits.specs.Records.{blank, at}
-use Rattle.edits.specs.Moved.{withArrows, skip, unskip, arrowInto, columnOf, leftAt, withoutBox, backAt, withBox}
+use Rattle.edits.specs.Moved.{withArrows, skip, unskip, arrowInto, columnOf, leftAt, withoutBox, withBox}
 use Rattle.edits.specs.declared.BoxRecord.{BoxRecord}
 use Rattle.edits.proofs.Found.{below-or}
 use Rattle.edits.proofs.Fine.{Listed}

@@ -1,28 +1,27 @@
 -- A change that is not refused leaves a list that is allowed beside the longer history.
 -- Assumes nothing.
 use mathlib.Core.Path.{_≡_, refl, sym, ap, _∙_}
-use mathlib.Core.Bool.{Bool, true, false, not}
+use mathlib.Core.Bool.{true, false, not}
 use mathlib.Core.List.{List}
 use Prim.Native.Nat.{ℕ, _+_, _-_, _<_, _≤_, _^_}
 use native.Mathlib.Omega.{arith}
-use lib.ListN.{length, set}
-use lib.Dec.{eqb}
+use lib.ListN.{set}
 use borrow.Author.Tests.{lt-ltb, eq-eqb, ne-eqb}
 use Rattle.laws.specs.Choice.{both, choose}
 use Rattle.laws.specs.Bits.{bit}
 use Rattle.laws.proofs.Tests.{both-of}
 use Rattle.laws.proofs.Bits.{bit-draw, bit-erase, draw-small, power-small}
 use Rattle.model.specs.Limits.{BOXES, EDITS}
-use Rattle.edits.specs.Records.{blank, at, boxes, place}
+use Rattle.edits.specs.Records.{at, boxes, place}
 use Rattle.edits.specs.History.{History, DELETE, DRAW, ERASE, push, deleted}
 use Rattle.edits.specs.Allowed.{made}
-use Rattle.edits.specs.Moved.{withArrows, skip, columnOf, withoutBox}
+use Rattle.edits.specs.Moved.{withArrows, skip, withoutBox}
 use Rattle.edits.specs.Plan.{added, deletion, arrow}
 use Rattle.edits.specs.Done.{newBox, done}
 use Rattle.edits.specs.declared.BoxRecord.{BoxRecord}
 use Rattle.edits.specs.declared.Entry.{Entry}
 use Rattle.edits.proofs.Past.{deleted-push, push-good}
-use Rattle.edits.proofs.Fine.{Listed, Sound, listed-live, listed-place}
+use Rattle.edits.proofs.Fine.{Sound, listed-live, listed-place}
 use Rattle.edits.proofs.Moved.{skip-apart, skip-below, column-bit, column-small}
 use Rattle.edits.proofs.Gave.{Gave, adding, deleting, drawing, erasing}
 use Rattle.edits.proofs.Listed.{by-place, at-same, at-other, listed-add, changed-id, listed-arrows, left-id, listed-without}

@@ -1,19 +1,18 @@
 -- The story of the four boxes, by computation: drawn, Bypass deleted, Log added, undone.
 -- Assumes nothing.
 use mathlib.Core.Path.{_≡_, refl, ap, _∙_}
-use mathlib.Core.Bool.{not}
 use mathlib.Core.List.{List, [], _∷_}
-use Prim.Native.Nat.{ℕ, _+_, _*_, _-_}
+use Prim.Native.Nat.{ℕ, _-_}
 use lib.ListN.{replicate}
 use Rattle.laws.specs.Choice.{both, either, brings, choose}
 use Rattle.laws.specs.Range.{every, some, first, count, tabulate}
 use Rattle.laws.specs.Bits.{bit, cut, put, gather}
 use Rattle.model.specs.Limits.{BOXES, EDIT-WORDS}
-use Rattle.edits.specs.Records.{blank, at, boxes, place}
+use Rattle.edits.specs.Records.{blank, boxes, place}
 use Rattle.edits.specs.History.{entry, endingAt, ending, deletedBy, past}
 use Rattle.edits.specs.Allowed.{made, goodEntry, goodAt, allowed}
 use Rattle.edits.specs.Moved.{columnOf, withoutBox, withBox}
-use Rattle.edits.specs.Plan.{Add, Delete, Draw, plan}
+use Rattle.edits.specs.Plan.{Add, Delete, plan}
 use Rattle.edits.specs.Done.{done, undone}
 use Rattle.edits.specs.Fits.{fits}
 use Rattle.edits.specs.Edited.{Request, Make, Undo, Drop, Edited, accepted, planned, undo, edited}

@@ -1,13 +1,11 @@
 -- Entries as words: what stands in a history after an entry is written behind the first n.
 -- Assumes nothing.
 use mathlib.Core.Path.{_≡_, refl, sym, ap, _∙_}
-use mathlib.Core.Bool.{Bool, true, false}
-use mathlib.Core.List.{List, [], _∷_}
+use mathlib.Core.List.{List}
 use mathlib.Core.Logic.{⊎-elim}
 use Prim.Native.Nat.{ℕ, zero, suc, _+_, _-_, _*_, _<_, _≤_}
 use native.Mathlib.Omega.{arith}
 use lib.ListN.{length, getD, set, replicate, List·getD-eq-default, getD-replicate, length-replicate}
-use lib.Dec.{ltb}
 use borrow.Author.Tests.{lt-ltb, le-ltb}
 use Rattle.laws.specs.Choice.{choose}
 use Rattle.laws.specs.Range.{tabulate}
@@ -16,7 +14,7 @@ use Rattle.laws.proofs.Range.{tabulate-same}
 use Rattle.laws.proofs.Filled.{filled-more}
 use Rattle.laws.proofs.Tables.{length-tabulate, tabulate-at, tabulated}
 use Rattle.model.specs.Limits.{EDITS, EDIT-WORDS}
-use Rattle.edits.specs.History.{History, FIELDS, fields, entry, none, endingAt, ending, keep, push, fresh}
+use Rattle.edits.specs.History.{FIELDS, fields, entry, none, endingAt, ending}
 use Rattle.edits.specs.declared.Entry.{Entry}
 use Rattle.edits.proofs.Found.{below-or}
 

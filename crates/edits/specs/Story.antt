@@ -8,8 +8,8 @@ use Rattle.laws.specs.Bits.{bit}
 use Rattle.model.specs.Limits.{BOXES}
 use Rattle.edits.specs.Records.{blank, at}
 use Rattle.edits.specs.History.{fresh}
-use Rattle.edits.specs.Plan.{Add, Delete, Draw}
-use Rattle.edits.specs.Edited.{Request, Make, Undo, Edited, accepted}
+use Rattle.edits.specs.Plan.{Add, Draw}
+use Rattle.edits.specs.Edited.{Request, Make, Edited, accepted}
 use Rattle.edits.specs.Promises.{after}
 use Rattle.edits.specs.declared.BoxRecord.{BoxRecord}
 

@@ -2,7 +2,7 @@
 use super::BoxRecord;
 use super::Entry;
 ghost use mathlib.Core.Path.{_≡_};
-ghost use Prim.Native.Nat.{ℕ, _<_, _≤_};
+ghost use Prim.Native.Nat.{_<_, _≤_};
 ghost use lib.ListN.{length};
 ghost use Rattle.laws.specs.Range.{every};
 ghost use Rattle.model.specs.Limits.{BOXES, EDITS, EDIT-WORDS};

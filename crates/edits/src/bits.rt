@@ -1,6 +1,6 @@
 // Sets of positions as words.
 ghost use mathlib.Core.Path.{_≡_};
-ghost use Prim.Native.Nat.{ℕ, _+_, _-_, _<_, _^_};
+ghost use Prim.Native.Nat.{_+_, _-_, _<_, _^_};
 ghost use lib.Dec.{ltb};
 ghost use Rattle.laws.specs.Bits.{bit, cut, put};
 

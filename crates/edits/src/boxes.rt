@@ -1,7 +1,7 @@
 // The list of boxes, by value: how many there are, where one stands, and what moves when one goes or comes back.
 use super::BoxRecord;
 ghost use mathlib.Core.Path.{_≡_};
-ghost use Prim.Native.Nat.{ℕ, _<_, _≤_, _^_};
+ghost use Prim.Native.Nat.{_<_};
 ghost use Rattle.model.specs.Limits.{BOXES};
 ghost use Rattle.edits.specs.Records.{blank, at, lives, isWith, boxes, place};
 ghost use Rattle.edits.specs.Moved.{withArrows, skip, unskip, arrowInto, columnOf, leftAt, withoutBox, backAt, withBox};

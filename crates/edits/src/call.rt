@@ -3,13 +3,11 @@ use super::Answer;
 use super::BoxRecord;
 ghost use mathlib.Core.Path.{_≡_};
 ghost use mathlib.Core.Bool.{true};
-ghost use Prim.Native.Nat.{ℕ, _≤_};
 ghost use lib.ListN.{length};
-ghost use Rattle.model.specs.Limits.{EDITS, EDIT-WORDS};
-ghost use Rattle.edits.specs.History.{past};
+ghost use Rattle.model.specs.Limits.{EDIT-WORDS};
+ghost use Rattle.edits.specs.History.{past, fresh};
 ghost use Rattle.edits.specs.Allowed.{allowed};
 ghost use Rattle.edits.specs.Edited.{outcome, accepted, planned, undo, edited, asked};
-ghost use Rattle.edits.specs.History.{fresh};
 ghost use Rattle.edits.specs.Private.{planOf};
 
 fn answer(number: u32, list: [BoxRecord; model::BOXES]) -> Answer

@@ -2,7 +2,7 @@
 use super::BoxRecord;
 use super::Entry;
 ghost use mathlib.Core.Path.{_≡_};
-ghost use Prim.Native.Nat.{ℕ, _<_};
+ghost use Prim.Native.Nat.{_<_};
 ghost use lib.ListN.{set};
 ghost use Rattle.laws.specs.Bits.{bit};
 ghost use Rattle.model.specs.Limits.{BOXES};

@@ -1,7 +1,7 @@
 // The history, as words: its entries, the ids that they delete, and writing its end.
 use super::Entry;
 ghost use mathlib.Core.Path.{_≡_};
-ghost use Prim.Native.Nat.{ℕ, _<_, _≤_};
+ghost use Prim.Native.Nat.{_<_, _≤_};
 ghost use lib.ListN.{length, getD};
 ghost use Rattle.model.specs.Limits.{EDITS, EDIT-WORDS};
 ghost use Rattle.edits.specs.History.{fields, entry, none, ending, takes, deletedBy};

@@ -8,7 +8,7 @@ mod history;
 mod plans;
 
 ghost use mathlib.Core.Path.{_≡_};
-ghost use Prim.Native.Nat.{ℕ, _<_};
+ghost use Prim.Native.Nat.{_<_};
 ghost use lib.ListN.{length, set, replicate};
 ghost use Rattle.model.specs.Limits.{BOXES};
 ghost use Rattle.edits.specs.Records.{blank, at};

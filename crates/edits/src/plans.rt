@@ -3,7 +3,7 @@ use super::BoxRecord;
 use super::Entry;
 use super::Plan;
 ghost use mathlib.Core.Path.{_≡_};
-ghost use Prim.Native.Nat.{ℕ, _<_, _≤_};
+ghost use Prim.Native.Nat.{_<_, _≤_};
 ghost use lib.ListN.{length};
 ghost use Rattle.model.specs.Limits.{BOXES, EDITS, EDIT-WORDS};
 ghost use Rattle.edits.specs.Records.{place};

@@ -2,7 +2,7 @@
 -- Assumes nothing.
 use mathlib.Core.Path.{_≡_, refl, sym, ap, _∙_}
 use Prim.Native.Nat.{ℕ, zero, suc, _+_, _-_, _*_, _/_, _%_, _^_, _<_, _≤_}
-use native.Mathlib.Nat.{div-one, mod-one, mul-one, pow-zero, pow-suc, not-suc-le-zero, le-of-suc-le-suc, div-div-eq-div-mul, one-le-pow, pow-le-pow-right, mod-lt, div-add-mod', mul-le-mul-right, div-le-self, mul-comm, add-comm}
+use native.Mathlib.Nat.{div-one, mod-one, pow-suc, not-suc-le-zero, le-of-suc-le-suc, div-div-eq-div-mul, one-le-pow, pow-le-pow-right, div-add-mod', mul-le-mul-right, mul-comm}
 use native.Mathlib.Numerals.{add-one}
 use native.Mathlib.Omega.{arith}
 use lib.Arith.{mod-mul}

@@ -1,5 +1,4 @@
 -- `edits::allowed::is_made` meets its contract. Assumes nothing.
-use mathlib.Core.Path.{refl}
 use borrow.Author.Tests.{eq-eqb, ne-eqb}
 use Rattle.laws.proofs.Tests.{choose-yes, choose-no}
 use Rattle.edits.specs.Allowed.{made}

@@ -1,7 +1,5 @@
 -- `edits::allowed::records_good` meets its contract. Assumes nothing.
-use mathlib.Core.Path.{_≡_, refl}
 use Prim.Native.Nat.{_≤_, _-_}
-use native.Mathlib.Omega.{arith}
 use Rattle.laws.specs.Range.{Held}
 use Rattle.laws.proofs.Tests.{told}
 use Rattle.laws.proofs.Loops.{each, every-yes, every-no}

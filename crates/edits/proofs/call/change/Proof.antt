@@ -1,5 +1,5 @@
 -- `edits::call::change` meets its contract. Assumes nothing.
-use mathlib.Core.Path.{refl, sym, ap, _∙_}
+use mathlib.Core.Path.{refl, _∙_}
 use native.Mathlib.Omega.{arith}
 use Rattle.edits.proofs.Called.{few, doable, planned-kept, planned-done}
 use borrow.Author.Needs.{needs}

@@ -1,5 +1,4 @@
 -- `edits::call::edit_list` meets its contract. Assumes nothing.
-use mathlib.Core.Path.{refl, sym, _∙_}
 use native.Mathlib.Omega.{arith}
 use borrow.Author.Tests.{not-true, not-false}
 use Rattle.laws.proofs.Tests.{told}

@@ -1,5 +1,5 @@
 -- `edits::call::undo_last` meets its contract. Assumes nothing.
-use mathlib.Core.Path.{refl, sym, ap, _∙_}
+use mathlib.Core.Path.{refl, _∙_}
 use native.Mathlib.Omega.{arith}
 use Rattle.laws.proofs.Tests.{told}
 use Rattle.edits.proofs.Called.{few, undoable, undo-none, undo-kept, undo-done}

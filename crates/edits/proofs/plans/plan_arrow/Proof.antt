@@ -1,7 +1,4 @@
 -- `edits::plans::plan_arrow` meets its contract. Assumes nothing.
-use mathlib.Core.Path.{sym, ap, _∙_, subst}
-use Prim.Native.Nat.{ℕ}
-use lib.Dec.{eqb}
 use borrow.Author.Tests.{eq-eqb, ne-eqb}
 use Rattle.laws.proofs.Tests.{choose-yes, choose-no}
 use Rattle.edits.proofs.Asked.{as-eqb, as-neb}

@@ -1,5 +1,5 @@
 -- `edits::plans::plan_delete` meets its contract. Assumes nothing.
-use mathlib.Core.Path.{_≡_, sym, _∙_}
+use mathlib.Core.Path.{_≡_, _∙_}
 use native.Mathlib.Omega.{arith}
 use Rattle.model.specs.Limits.{BOXES}
 use Rattle.laws.proofs.Tests.{choose-yes, choose-no}

@@ -1,7 +1,4 @@
 -- `edits::plans::refusal` meets its contract. Assumes nothing.
-use mathlib.Core.Path.{ap}
-use Rattle.edits.specs.declared.Entry.{Entry}
-use Rattle.edits.specs.declared.Plan.{Plan}
 use borrow.Author.Needs.{needs}
 use Rattle.edits.proofs.plans.refusal.Statement.{statement}
 use Rattle.edits.proofs.plans.refusal.Tie as tie
