@@ -1,4 +1,4 @@
-// The verdict on a sheet, taken apart for C++20. Header only: no exceptions, no allocation, no state.
+// The verdict on a sheet, taken apart, and drawings that are edited, for C++20. Header only: no exceptions, no allocation, no state.
 #ifndef ZARPALUME_HPP
 #define ZARPALUME_HPP
 
@@ -9,15 +9,19 @@
 #include <charconv>
 #include <cstddef>
 #include <cstdint>
+#include <initializer_list>
+#include <iterator>
 #include <optional>
 #include <span>
 #include <string_view>
 #include <system_error>
+#include <type_traits>
 
 namespace zarpalume {
 
 inline constexpr std::size_t most_boxes = ZARPALUME_BOXES;
 inline constexpr std::size_t most_arrows = ZARPALUME_PAIRS;
+inline constexpr std::size_t most_edits = ZARPALUME_EDITS;
 
 enum class Outcome : std::uint8_t { accepted, broken, refused };
 
@@ -54,7 +58,7 @@ struct Refusal {
     friend constexpr bool operator==(const Refusal &, const Refusal &) noexcept = default;
 };
 
-// A needed arrow, by the ids of its boxes.
+// An arrow, by the ids of its boxes.
 struct Arrow {
     std::uint32_t source{};
     std::uint32_t target{};
@@ -68,6 +72,29 @@ struct Depth {
     std::uint32_t depth{};
 
     friend constexpr bool operator==(const Depth &, const Depth &) noexcept = default;
+};
+
+// A list in fixed room; what has no room is left out, and the library has no more than fits.
+template <typename Item, std::size_t room>
+class List {
+public:
+    constexpr void add(const Item &item) noexcept {
+        if (count_ < room) {
+            items_[count_++] = item;
+        }
+    }
+
+    constexpr std::span<const Item> items() const noexcept { return std::span{items_}.first(count_); }
+    constexpr const Item *begin() const noexcept { return items_.data(); }
+    constexpr const Item *end() const noexcept { return items_.data() + count_; }
+    constexpr std::size_t size() const noexcept { return count_; }
+    constexpr bool empty() const noexcept { return count_ == 0; }
+
+    friend constexpr bool operator==(const List &, const List &) noexcept = default;
+
+private:
+    std::array<Item, room> items_{};
+    std::size_t count_ = 0;
 };
 
 namespace detail {
@@ -95,22 +122,32 @@ inline std::uint32_t take_number(std::string_view &line) noexcept {
     return number(take(line, '\t')).value_or(0);
 }
 
-// A list in fixed room; what has no room is left out, and the library writes no more than fits.
-template <typename Item, std::size_t room>
-class List {
+// A number's decimal digits.
+class Digits {
 public:
-    constexpr void add(const Item &item) noexcept {
-        if (count_ < room) {
-            items_[count_++] = item;
-        }
+    explicit Digits(std::uint32_t value) noexcept {
+        const char *const end = std::to_chars(room_.data(), room_.data() + room_.size(), value).ptr;
+        length_ = static_cast<std::size_t>(end - room_.data());
     }
 
-    constexpr std::span<const Item> items() const noexcept { return std::span{items_}.first(count_); }
+    std::string_view text() const noexcept { return {room_.data(), length_}; }
 
 private:
-    std::array<Item, room> items_{};
-    std::size_t count_ = 0;
+    std::array<char, 10> room_{};
+    std::size_t length_ = 0;
 };
+
+// Writes a line of a sheet.
+template <std::output_iterator<char> Out>
+Out put_line(Out out, std::string_view word, std::initializer_list<std::string_view> fields) {
+    out = std::copy(word.begin(), word.end(), out);
+    for (const std::string_view field : fields) {
+        *out++ = '\t';
+        out = std::copy(field.begin(), field.end(), out);
+    }
+    *out++ = '\n';
+    return out;
+}
 
 } // namespace detail
 
@@ -193,8 +230,8 @@ private:
     Outcome outcome_ = Outcome::refused;
     Place place_{};
     Refusal refusal_{};
-    detail::List<Arrow, most_arrows> needed_{};
-    detail::List<Depth, most_boxes> depths_{};
+    List<Arrow, most_arrows> needed_{};
+    List<Depth, most_boxes> depths_{};
     std::uint32_t reach_ = 0;
     std::size_t length_ = 0;
     std::array<std::uint8_t, ZARPALUME_VERDICT_BYTES> buffer_{};
@@ -212,6 +249,130 @@ inline Verdict judge(std::span<const std::byte> sheet) noexcept {
 inline Verdict judge(std::string_view sheet) noexcept {
     return judge(std::span{reinterpret_cast<const std::uint8_t *>(sheet.data()), sheet.size()});
 }
+
+// What became of an edit: done, or the number of the refusal, which changed nothing.
+enum class Edited : std::uint32_t {
+    done = 0,
+    unknown_id = 8,
+    wrong_length = 10,
+    broken_rules = 12,
+    id_taken = 14,
+    no_room = 15,
+    nothing_to_undo = 16,
+    history_full = 17,
+    nothing_to_change = 18,
+};
+
+// In words, for people.
+constexpr std::string_view words(Edited edited) noexcept {
+    switch (edited) {
+    case Edited::done:
+        return "done";
+    case Edited::unknown_id:
+        return "no box has this id";
+    case Edited::wrong_length:
+        return "the list or the history has the wrong length";
+    case Edited::broken_rules:
+        return "the list or the history breaks the rules";
+    case Edited::id_taken:
+        return "the id is taken, or deleted in the history";
+    case Edited::no_room:
+        return "there are as many boxes as fit";
+    case Edited::nothing_to_undo:
+        return "there is nothing to undo";
+    case Edited::history_full:
+        return "the history is full";
+    case Edited::nothing_to_change:
+        return "the arrow stands already, or is absent already, or leads from a box to itself";
+    }
+    return {};
+}
+
+// A drawing while it is edited: boxes by their ids, the arrows between them, and a history of the edits.
+// Only edits change it, so no refusal is ever wrong_length or broken_rules. A copy is a drawing of its own.
+class Drawing {
+public:
+    // The box goes last. An id that was deleted is taken as long as the history has its deletion.
+    [[nodiscard]] Edited add(std::uint32_t id) noexcept { return edit(zarpalume_add, id); }
+    // The box goes with all its arrows.
+    [[nodiscard]] Edited remove(std::uint32_t id) noexcept { return edit(zarpalume_delete, id); }
+    [[nodiscard]] Edited draw(std::uint32_t source, std::uint32_t target) noexcept { return edit(zarpalume_draw, source, target); }
+    [[nodiscard]] Edited erase(std::uint32_t source, std::uint32_t target) noexcept { return edit(zarpalume_erase, source, target); }
+    // Boxes, their order, ids and arrows are again what they were before the last edit, which leaves the history.
+    [[nodiscard]] Edited undo() noexcept { return edit(zarpalume_undo); }
+    // Keeps boxes and arrows. It can be refused for wrong_length and broken_rules only, so never.
+    void drop_history() noexcept { static_cast<void>(edit(zarpalume_drop)); }
+
+    // How many edits can be undone; with most_edits of them every new one is refused.
+    std::size_t edits() const noexcept { return count_; }
+
+    // The boxes' ids, in box order.
+    List<std::uint32_t, most_boxes> boxes() const noexcept {
+        List<std::uint32_t, most_boxes> ids;
+        for (const zarpalume_box &box : boxes_) {
+            if (box.live != 0) {
+                ids.add(box.id);
+            }
+        }
+        return ids;
+    }
+
+    // By box order, source first.
+    List<Arrow, most_arrows> arrows() const noexcept {
+        return arrows_where([](const Arrow &) { return true; });
+    }
+
+    // The arrows that start or end at this box.
+    List<Arrow, most_arrows> arrows_touching(std::uint32_t id) const noexcept {
+        return arrows_where([id](const Arrow &arrow) { return arrow.source == id || arrow.target == id; });
+    }
+
+    // Writes a sheet's `box` lines through an output iterator, which is given back; label(id) is the box's label.
+    // A label or an id that no sheet has is written as it is, and refused when the sheet is judged.
+    template <std::output_iterator<char> Out, typename Label>
+        requires std::is_invocable_r_v<std::string_view, Label &, std::uint32_t>
+    Out write_boxes(Out out, Label &&label) const {
+        for (const std::uint32_t id : boxes()) {
+            out = detail::put_line(out, "box", {detail::Digits{id}.text(), label(id)});
+        }
+        return out;
+    }
+
+    // The same for its `flow` lines.
+    template <std::output_iterator<char> Out>
+    Out write_arrows(Out out) const {
+        for (const auto &[source, target] : arrows()) {
+            out = detail::put_line(out, "flow", {detail::Digits{source}.text(), detail::Digits{target}.text()});
+        }
+        return out;
+    }
+
+private:
+    template <typename Call, typename... Ids>
+    Edited edit(Call call, Ids... ids) noexcept {
+        return Edited{call(boxes_.data(), boxes_.size(), history_.data(), history_.size(), &count_, ids...)};
+    }
+
+    template <typename Test>
+    List<Arrow, most_arrows> arrows_where(Test wanted) const noexcept {
+        List<Arrow, most_arrows> found;
+        for (const zarpalume_box &source : boxes_) {
+            for (std::size_t position = 0; position < most_boxes; position++) {
+                const Arrow arrow{source.id, boxes_[position].id};
+                if ((source.arrows >> position & 1) != 0 && wanted(arrow)) {
+                    found.add(arrow);
+                }
+            }
+        }
+        return found;
+    }
+
+    std::array<zarpalume_box, ZARPALUME_BOXES> boxes_{};
+    std::array<std::uint32_t, ZARPALUME_EDIT_WORDS> history_{};
+    std::uint32_t count_ = 0;
+};
+
+static_assert(sizeof(std::array<zarpalume_edit, ZARPALUME_EDITS>) == sizeof(std::array<std::uint32_t, ZARPALUME_EDIT_WORDS>));
 
 } // namespace zarpalume
 

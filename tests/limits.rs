@@ -18,3 +18,6 @@ pub const SHEET_BYTES: usize = 32768;
 pub const LABEL_BYTES: usize = 32;
 pub const RUN_ACTIONS: usize = 1024;
 pub const VERDICT_BYTES: usize = 8192;
+
+pub const EDITS: usize = 32;
+pub const EDIT_WORDS: usize = 6 * EDITS;

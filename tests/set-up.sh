@@ -42,7 +42,7 @@ make_rust() {
 }
 
 make_second() {
-  make_rust second tests/second/second.rs tests/second/selftest.rs
+  make_rust second tests/second/second.rs tests/second/*.rs
 }
 
 make_requests() {
@@ -55,10 +55,33 @@ make_answers() {
     "$folder/requests" make 1 4000 letters=V >"$folder/requests.bin" && "$folder/second" serve <"$folder/requests.bin" >"$folder/second.bin"
 }
 
+# make_cpp NAME COMPILER [FLAG or SOURCE...]: a C++ program of the tests, which any warning stops.
+make_cpp() {
+  "$2" -std=c++20 -O1 -pthread -Wall -Wextra -Wpedantic -Wconversion -Wshadow -Werror -Iinclude -o "$folder/cpp-$1" "tests/cpp/$1.cpp" "${@:3}"
+}
+
+# The program that answers requests for edits by the proved library.
+make_edits() {
+  want_compilers && make_archive && make_cpp edits "$cpp_compiler" "$archive"
+}
+
 # make_program NAME: a proved program, which the gate has built already.
 make_program() {
   want_compilers || return 1
   tools/fresh "target/bin/$1" rt check "$1" >"$folder/$1.log" 2>&1 || { cat "$folder/$1.log"; return 1; }
+}
+
+passed=0
+failed=0
+
+# Counts a command that must end with 0.
+count() { # COMMAND...
+  if "$@"; then
+    passed=$((passed + 1))
+  else
+    echo "$(basename "$0"): FAILED: $*"
+    failed=$((failed + 1))
+  fi
 }
 
 # Prints the last line that the gate reads, and ends the test.

@@ -6,11 +6,12 @@
 #include <optional>
 #include <string>
 #include <sys/stat.h>
+#include <zarpalume.h>
 
 namespace sites {
 
 // One byte more than a sheet may have, so that a longer file is refused for its length and not read to its end.
-inline constexpr std::size_t sheet_reading = 32'769;
+inline constexpr std::size_t sheet_reading = ZARPALUME_SHEET_BYTES + 1;
 
 // An open file, shut at the end.
 class Descriptor {

@@ -1,4 +1,4 @@
-// The header over a call that writes whatever it likes: it must read every text, in bounds, and allocate nothing.
+// The header over calls that write whatever they like: it must read every text and list, in bounds, and allocate nothing.
 #include <zarpalume.hpp>
 
 #include <cstdio>
@@ -17,6 +17,8 @@ std::array<char, ZARPALUME_VERDICT_BYTES> said{};
 std::size_t said_length = 0;
 int wrong = 0;
 
+std::uint32_t edit_number = 0;
+
 void check(bool right, const char *what) {
     if (!right) {
         std::printf("parser: wrong: %s\n", what);
@@ -30,7 +32,7 @@ zarpalume::Verdict heard(std::string_view text) {
     return zarpalume::judge("a sheet");
 }
 
-using zarpalume::Arrow, zarpalume::Condition, zarpalume::Depth, zarpalume::Outcome, zarpalume::Place, zarpalume::Refusal, zarpalume::Verdict;
+using zarpalume::Arrow, zarpalume::Condition, zarpalume::Depth, zarpalume::Edited, zarpalume::Outcome, zarpalume::Place, zarpalume::Refusal, zarpalume::Verdict;
 
 template <typename Type>
 concept gives_parts = requires(Type &&verdict) { std::forward<Type>(verdict).text(); };
@@ -46,6 +48,14 @@ constexpr bool quiet = noexcept(std::declval<Type>().outcome()) && noexcept(std:
                        noexcept(std::declval<Type>().needed()) && noexcept(std::declval<Type>().depths()) &&
                        noexcept(std::declval<Type>().reach()) && noexcept(std::declval<Type>().text());
 static_assert(quiet<const Verdict &>);
+
+using zarpalume::Drawing;
+static_assert(std::is_trivially_copyable_v<Drawing> && std::is_nothrow_default_constructible_v<Drawing>);
+static_assert(noexcept(std::declval<Drawing>().add(0)) && noexcept(std::declval<Drawing>().remove(0)) && noexcept(std::declval<Drawing>().draw(0, 0)) &&
+              noexcept(std::declval<Drawing>().erase(0, 0)) && noexcept(std::declval<Drawing>().undo()) &&
+              noexcept(std::declval<Drawing>().drop_history()) && noexcept(std::declval<Drawing>().edits()) &&
+              noexcept(std::declval<Drawing>().boxes()) && noexcept(std::declval<Drawing>().arrows()) &&
+              noexcept(std::declval<Drawing>().arrows_touching(0)));
 
 void good_texts() {
     const auto accepted = heard("views\taccepted\nneed\t10\t4294967295\ndepth\t10\t7\nreach\t9\n");
@@ -92,6 +102,26 @@ void mixed_texts() {
     }
 }
 
+// A list with every bit set: each box live, with an arrow to each box and to itself.
+void lists_that_no_edit_gives() {
+    Drawing drawing;
+    for (edit_number = 0; edit_number < 20; edit_number++) {
+        const Edited outcome = drawing.add(7);
+        constexpr std::array numbers{0, 8, 10, 12, 14, 15, 16, 17, 18};
+        const bool has_a_name = std::find(numbers.begin(), numbers.end(), static_cast<int>(edit_number)) != numbers.end();
+        check(outcome == Edited{edit_number} && words(outcome).empty() != has_a_name, "an edit's number");
+    }
+    check(drawing.edits() == UINT32_MAX && drawing.boxes().size() == zarpalume::most_boxes, "every box");
+    check(drawing.arrows().size() == zarpalume::most_arrows, "more arrows than there can be");
+    check(drawing.arrows_touching(UINT32_MAX) == drawing.arrows() && drawing.arrows_touching(7).empty(), "arrows that touch a box");
+    constexpr std::string_view box_line = "box\t4294967295\tb\n";
+    constexpr std::string_view arrow_line = "flow\t4294967295\t4294967295\n";
+    std::array<char, zarpalume::most_boxes * box_line.size() + zarpalume::most_arrows * arrow_line.size()> lines{};
+    char *const boxes_end = drawing.write_boxes(lines.data(), [](std::uint32_t) { return "b"; });
+    check(std::string_view{lines.data(), boxes_end}.ends_with(box_line), "box lines");
+    check(drawing.write_arrows(boxes_end) == lines.data() + lines.size() && std::string_view{lines.data(), lines.size()}.ends_with(arrow_line), "flow lines");
+}
+
 } // namespace
 
 extern "C" std::size_t zarpalume_verdict(const std::uint8_t *sheet, std::size_t, std::uint8_t *verdict, std::size_t verdict_length) {
@@ -100,10 +130,20 @@ extern "C" std::size_t zarpalume_verdict(const std::uint8_t *sheet, std::size_t,
     return said_length;
 }
 
+extern "C" std::uint32_t zarpalume_add(zarpalume_box *boxes, std::size_t boxes_length, std::uint32_t *history, std::size_t history_length, std::uint32_t *count,
+                                       std::uint32_t id) {
+    check(boxes_length == ZARPALUME_BOXES && history_length == ZARPALUME_EDIT_WORDS && id == 7, "what is lent");
+    std::fill_n(boxes, boxes_length, zarpalume_box{UINT32_MAX, UINT32_MAX, UINT32_MAX});
+    std::fill_n(history, history_length, UINT32_MAX);
+    *count = UINT32_MAX;
+    return edit_number;
+}
+
 int main() {
     good_texts();
     texts_that_no_verdict_has();
     mixed_texts();
+    lists_that_no_edit_gives();
     const auto empty = zarpalume::judge(std::string_view{});
     check(empty.text().size() == said_length, "an empty sheet");
     std::printf("parser: %d wrong\n", wrong);

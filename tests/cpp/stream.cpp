@@ -1,13 +1,12 @@
 // Holds the C call and the C++ header to the second program's answers, in as many threads at once as the third word says.
 #include "requests.hpp"
+#include "threads.hpp"
 
 #include <zarpalume.hpp>
 
 #include <algorithm>
-#include <atomic>
 #include <memory>
 #include <string>
-#include <thread>
 
 zarpalume::Verdict judged_elsewhere(std::string_view sheet) noexcept;
 
@@ -80,19 +79,7 @@ int main(int count, char **words) {
     }
     const std::size_t threads = std::strtoul(words[3], nullptr, 10);
     const std::vector<Request> requests = read_requests(words[1], words[2]);
-    std::atomic<std::size_t> wrong = 0;
-    std::vector<std::thread> running;
-    for (std::size_t k = 0; k < threads; k++) {
-        // Each starts elsewhere, so that different sheets are judged at the same time.
-        running.emplace_back([&, begin = k * requests.size() / threads] {
-            for (std::size_t i = 0; i < requests.size(); i++) {
-                wrong += !right(requests[(begin + i) % requests.size()]);
-            }
-        });
-    }
-    for (std::thread &each : running) {
-        each.join();
-    }
-    std::printf("stream: %zu requests, each in %zu threads, %zu answered wrongly\n", requests.size(), threads, wrong.load());
+    const std::size_t wrong = wrong_in_threads(requests, threads, right);
+    std::printf("stream: %zu requests, each in %zu threads, %zu answered wrongly\n", requests.size(), threads, wrong);
     return threads > 0 && wrong == 0 ? 0 : 1;
 }

@@ -1,5 +1,6 @@
 //! Writes requests in the layout of tests/README.md.
 
+use crate::edits::{Drawing, Step};
 use crate::handed::Handed;
 use std::io::{self, BufWriter, Stdout, Write};
 
@@ -48,6 +49,40 @@ impl Request {
             self.number(4, u64::from(id));
         }
         self.0.extend(handed.arrows.map(u8::from));
+    }
+
+    fn numbers(&mut self, numbers: &[u32]) {
+        for &number in numbers {
+            self.number(4, u64::from(number));
+        }
+    }
+
+    fn drawing(&mut self, drawing: &Drawing) {
+        self.number(4, drawing.records.len() as u64);
+        for record in &drawing.records {
+            self.numbers(record);
+        }
+        self.number(4, drawing.history.len() as u64);
+        self.numbers(&drawing.history);
+        self.numbers(&[drawing.edits]);
+    }
+
+    /// What a kind doesn't use is not looked at.
+    fn step(&mut self, step: Step) {
+        const UNUSED: u32 = 0xA5A5_A5A5;
+        let (kind, first, second) = match step {
+            Step::Add(id) => (1, id, UNUSED),
+            Step::Delete(id) => (2, id, UNUSED),
+            Step::Draw(source, target) => (3, source, target),
+            Step::Erase(source, target) => (4, source, target),
+            Step::Undo => (5, UNUSED, UNUSED),
+            Step::Drop => (6, UNUSED, UNUSED),
+            Step::WriteList(place, number) => (7, place, number),
+            Step::WriteHistory(place, number) => (8, place, number),
+            Step::WriteCount(number) => (9, UNUSED, number),
+        };
+        self.number(1, kind);
+        self.numbers(&[first, second]);
     }
 }
 
@@ -132,5 +167,14 @@ impl Asker {
             })?;
         }
         Ok(())
+    }
+    pub fn edits(&mut self, drawing: &Drawing, steps: &[Step]) -> io::Result<()> {
+        self.ask(b'E', |request| {
+            request.drawing(drawing);
+            request.number(4, steps.len() as u64);
+            for &step in steps {
+                request.step(step);
+            }
+        })
     }
 }

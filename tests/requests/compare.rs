@@ -1,6 +1,6 @@
 //! Asks two programs the same requests and holds their answers to each other.
 
-use crate::stream::Message;
+use crate::stream::{Message, Part};
 use std::fs::{self, File};
 use std::io::{self, BufReader, Read};
 use std::process::{Child, ChildStdout, Command, Stdio};
@@ -52,39 +52,78 @@ fn show_request(index: u64, request: &Message) {
 }
 
 /// The parts that differ, whole, and where each begins to.
-fn show_difference(commands: [&str; 2], answers: &[io::Result<Message>; 2]) {
-    if let [Ok(first), Ok(second)] = answers {
-        for (one, other) in first.parts.iter().zip(&second.parts).filter(|(one, other)| one != other) {
-            let place = one.values.iter().zip(&other.values).position(|(one, other)| one != other);
-            let place = place.unwrap_or(one.values.len().min(other.values.len()));
-            println!("the answers differ in {} from entry {place} on", one.name);
-            for (command, part) in [(commands[0], one), (commands[1], other)] {
-                println!("{command}: {}", part.shown());
-            }
+fn show_different_parts(commands: [&str; 2], first: &[Part], second: &[Part]) {
+    for (one, other) in first.iter().zip(second).filter(|(one, other)| one != other) {
+        let place = one.values.iter().zip(&other.values).position(|(one, other)| one != other);
+        let place = place.unwrap_or(one.values.len().min(other.values.len()));
+        println!("the answers differ in {} from entry {place} on", one.name);
+        for (command, part) in [(commands[0], one), (commands[1], other)] {
+            println!("{command}: {}", part.shown());
         }
+    }
+}
+
+/// The first step that is answered differently, the drawing before it, and the answers' parts that differ.
+fn show_different_step(commands: [&str; 2], request: &Message, first: &Message, second: &Message) {
+    let mut before = &request.parts[..];
+    for (place, (step, (one, other))) in request.steps_asked().iter().zip(first.steps_answered().zip(second.steps_answered())).enumerate() {
+        if one != other {
+            println!("step {place}, {}, on", step.shown());
+            for part in before.iter().filter(|part| !["number", "steps"].contains(&part.name)) {
+                println!("{}", part.shown());
+            }
+            show_different_parts(commands, one, other);
+            return;
+        }
+        before = one;
+    }
+}
+
+fn show_difference(commands: [&str; 2], request: &Message, answers: &[io::Result<Message>; 2]) {
+    match answers {
+        [Ok(first), Ok(second)] if request.letter == b'E' => show_different_step(commands, request, first, second),
+        [Ok(first), Ok(second)] => show_different_parts(commands, &first.parts, &second.parts),
+        _ => {}
     }
     for (command, answer) in commands.iter().zip(answers) {
         match answer {
-            // The verdict call's refusal stands in its text.
-            Ok(message) if message.letter == b'V' => {}
+            // The verdict call's refusal stands in its text, and those of edits in their steps.
+            Ok(message) if [b'V', b'E'].contains(&message.letter) => {}
             Ok(message) => println!("{command}: refusal {}, line {}", message.value("number"), message.value("line")),
             Err(error) => println!("{command}: no whole answer: {error}"),
         }
     }
 }
 
-/// How many requests were answered alike, or none where some were not; the first that was not is left in a file beside the requests.
-pub fn compare(requests: &str, commands: [&str; 2]) -> io::Result<Option<u64>> {
+/// How many requests there are, and how many calls they ask for: of edits each is a call.
+#[derive(Default)]
+pub struct Counts {
+    pub requests: u64,
+    pub calls: u64,
+}
+
+impl Counts {
+    fn add(&mut self, request: &Message) {
+        self.requests += 1;
+        self.calls += match request.letter {
+            b'E' => request.steps_asked().iter().filter(|step| step.call().is_some()).count() as u64,
+            _ => 1,
+        };
+    }
+}
+
+/// What was answered alike, or none where something was not; the first request that was not is left in a file beside the requests.
+pub fn compare(requests: &str, commands: [&str; 2]) -> io::Result<Option<Counts>> {
     let mut source = BufReader::with_capacity(1 << 16, File::open(requests)?);
     let mut first = Speaker::start(commands[0], requests)?;
     let mut second = Speaker::start(commands[1], requests)?;
-    let mut count = 0;
+    let mut counts = Counts::default();
     while let Some(request) = Message::request(&mut source)? {
-        let answers = [Message::answer(&mut first.answers, request.letter), Message::answer(&mut second.answers, request.letter)];
+        let answers = [Message::answer(&mut first.answers, &request), Message::answer(&mut second.answers, &request)];
         let alike = matches!(&answers, [Ok(first), Ok(second)] if first.raw == second.raw);
         if !alike {
-            show_request(count, &request);
-            show_difference(commands, &answers);
+            show_request(counts.requests, &request);
+            show_difference(commands, &request, &answers);
             let left = format!("{requests}.difference");
             fs::write(&left, &request.raw)?;
             println!("the request alone: {left}");
@@ -92,9 +131,9 @@ pub fn compare(requests: &str, commands: [&str; 2]) -> io::Result<Option<u64>> {
             second.stop();
             return Ok(None);
         }
-        count += 1;
+        counts.add(&request);
     }
     first.end()?;
     second.end()?;
-    Ok(Some(count))
+    Ok(Some(counts))
 }

@@ -1,22 +1,20 @@
 //! The families of random requests; each call asks for one turn's worth.
 
 use crate::ask::Asker;
+use crate::bounds::{ACTIONS, BOXES, LIST_ENTRIES, NEXT_ENTRIES, OUTPUT_ENTRIES, RUN_ACTIONS, SHEET_BYTES, VERDICT_BYTES, VIEW_ENTRIES};
 use crate::dice::Dice;
-use crate::handed::{Handed, NEXT, OUTPUTS, VIEWS};
-use crate::model::{self, Model, Shape, ACTIONS, FULL};
-use crate::sheet::{self, SHEET_BYTES};
+use crate::handed::Handed;
+use crate::model::{self, Model, Shape, FULL};
+use crate::sheet;
 use std::io;
 
-pub const TABLES: [usize; 3] = [NEXT, OUTPUTS, VIEWS];
-pub const LIST: usize = 480;
-pub const VERDICT: usize = 8_192;
-pub const RUN: usize = 1_024;
+pub const TABLES: [usize; 3] = [NEXT_ENTRIES, OUTPUT_ENTRIES, VIEW_ENTRIES];
 
 /// The same text through one of the three calls that take a sheet; the reader's answers are the longest, so they are fewer.
 pub fn one_of_three(asker: &mut Asker, dice: &mut Dice, text: &[u8]) -> io::Result<()> {
     match dice.below(5) {
         0 => asker.read(text, TABLES),
-        1 | 2 => asker.verdict(text, VERDICT),
+        1 | 2 => asker.verdict(text, VERDICT_BYTES),
         _ => {
             let position = position(dice, 1);
             asker.label(text, position)
@@ -28,7 +26,7 @@ pub fn one_of_three(asker: &mut Asker, dice: &mut Dice, text: &[u8]) -> io::Resu
 fn position(dice: &mut Dice, boxes: usize) -> u64 {
     match dice.below(12) {
         0 => boxes as u64,
-        1 => dice.pick(&[15, 16, 17, 255, 1 << 32, u64::MAX]),
+        1 => dice.pick(&[BOXES as u64 - 1, BOXES as u64, BOXES as u64 + 1, 255, 1 << 32, u64::MAX]),
         _ => dice.below(boxes) as u64,
     }
 }
@@ -38,7 +36,7 @@ pub fn sheets(asker: &mut Asker, dice: &mut Dice) -> io::Result<()> {
     let sizes = model::sheet_sizes(dice);
     let model = Model::any(dice, sizes);
     let text = sheet::text(dice, &model);
-    asker.verdict(&text, VERDICT)?;
+    asker.verdict(&text, VERDICT_BYTES)?;
     let position = position(dice, sizes.boxes);
     asker.label(&text, position)?;
     if dice.one_in(2) {
@@ -64,7 +62,7 @@ pub fn tables(asker: &mut Asker, dice: &mut Dice) -> io::Result<()> {
     let handed = Handed::of(dice, &model);
     match dice.below(5) {
         0 => asker.reached(&handed),
-        1 | 2 => asker.needed(&handed, LIST),
+        1 | 2 => asker.needed(&handed, LIST_ENTRIES),
         _ => asker.judge(&handed),
     }
 }
@@ -72,8 +70,8 @@ pub fn tables(asker: &mut Asker, dice: &mut Dice) -> io::Result<()> {
 /// A run of the model's actions, mostly short, and some with a byte that names none.
 fn run(dice: &mut Dice, actions: usize) -> Vec<u8> {
     let length = match dice.below(60) {
-        0 => dice.between(RUN - 1, RUN + 1),
-        1 => dice.between(0, 2 * RUN),
+        0 => dice.between(RUN_ACTIONS - 1, RUN_ACTIONS + 1),
+        1 => dice.between(0, 2 * RUN_ACTIONS),
         2..=11 => dice.between(0, 100),
         _ => dice.between(0, 12),
     };
@@ -87,7 +85,7 @@ fn run(dice: &mut Dice, actions: usize) -> Vec<u8> {
 }
 
 /// A length beside the right one, or anywhere up to twice that much.
-fn wrong_length(dice: &mut Dice, right: usize) -> usize {
+pub fn wrong_length(dice: &mut Dice, right: usize) -> usize {
     let anywhere = dice.below(2 * right + 1);
     dice.pick(&[0, 1, right.saturating_sub(1), right + 1, right / 2, 2 * right, anywhere])
 }
@@ -117,7 +115,7 @@ pub fn values(asker: &mut Asker, dice: &mut Dice) -> io::Result<()> {
     }
     match dice.below(6) {
         0 => asker.judge(&handed),
-        1 => asker.needed(&handed, LIST),
+        1 => asker.needed(&handed, LIST_ENTRIES),
         2 => asker.reached(&handed),
         _ => {
             let run = run(dice, sizes.actions);
@@ -150,7 +148,7 @@ pub fn lengths(asker: &mut Asker, dice: &mut Dice) -> io::Result<()> {
         2 => text.resize(SHEET_BYTES + dice.below(3), b'\n'),
         _ => {}
     }
-    let room = wrong_length(dice, VERDICT);
+    let room = wrong_length(dice, VERDICT_BYTES);
     asker.verdict(&text, room)?;
     let mut counts = TABLES;
     let at = dice.below(3);
@@ -169,13 +167,13 @@ pub fn lengths(asker: &mut Asker, dice: &mut Dice) -> io::Result<()> {
     let room = wrong_length(dice, run.len());
     let position = position(dice, sizes.boxes);
     asker.purge(&handed, position, &run, room)?;
-    let mut list = LIST;
+    let mut list = LIST_ENTRIES;
     let chosen = dice.below(5);
     match chosen {
-        0 => list = wrong_length(dice, LIST),
-        1 => handed.next.resize(wrong_length(dice, NEXT), 0),
-        2 => handed.outputs.resize(wrong_length(dice, OUTPUTS), 0),
-        3 => handed.views.resize(wrong_length(dice, VIEWS), 0),
+        0 => list = wrong_length(dice, LIST_ENTRIES),
+        1 => handed.next.resize(wrong_length(dice, NEXT_ENTRIES), 0),
+        2 => handed.outputs.resize(wrong_length(dice, OUTPUT_ENTRIES), 0),
+        3 => handed.views.resize(wrong_length(dice, VIEW_ENTRIES), 0),
         _ => std::mem::swap(&mut handed.outputs, &mut handed.views),
     }
     match (chosen, dice.below(3)) {

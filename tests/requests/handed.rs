@@ -1,11 +1,8 @@
 //! Models as values and tables, as a call is handed them, and what can be wrong with them.
 
+use crate::bounds::{ACTIONS, BOXES, NEXT_ENTRIES, OUTPUT_ENTRIES, STATES, VIEW_ENTRIES};
 use crate::dice::Dice;
-use crate::model::{Model, ACTIONS, BOXES, STATES};
-
-pub const NEXT: usize = 4_096;
-pub const OUTPUTS: usize = 4_096;
-pub const VIEWS: usize = 2_048;
+use crate::model::Model;
 
 /// A bad number: one of those given, or far off and good again where its upper bytes are lost.
 fn pick_far(dice: &mut Dice, near: &[u64], good: u64) -> u64 {
@@ -41,9 +38,9 @@ impl Handed {
             owners: [beyond(255) as u8; ACTIONS],
             ids: [beyond(dice.pick(&[model.ids[0], 65_536, u32::MAX])); BOXES],
             arrows: [false; BOXES * BOXES],
-            next: vec![beyond(65_535) as u16; NEXT],
-            outputs: vec![beyond(65_535) as u16; OUTPUTS],
-            views: vec![beyond(65_535) as u16; VIEWS],
+            next: vec![beyond(65_535) as u16; NEXT_ENTRIES],
+            outputs: vec![beyond(65_535) as u16; OUTPUT_ENTRIES],
+            views: vec![beyond(65_535) as u16; VIEW_ENTRIES],
         };
         for (action, &owner) in model.owners.iter().enumerate() {
             handed.owners[action] = owner as u8;
@@ -113,7 +110,7 @@ impl Handed {
         }
     }
 
-    /// An arrow with ends from the given positions on; with 16 boxes there is none beyond.
+    /// An arrow with ends from the given positions on; with the most boxes there is none beyond.
     fn arrow_beyond(&mut self, dice: &mut Dice, source: usize, target: usize) {
         if source < BOXES && target < BOXES {
             let source = dice.between(source, BOXES - 1);

@@ -1,11 +1,13 @@
 //! The limits of the requirements and the places beside them, each asked for by name and not by chance.
 
 use crate::ask::Asker;
+use crate::bounds::{ACTIONS, BOXES, LABEL_BYTES, LIST_ENTRIES, NEXT_ENTRIES, RUN_ACTIONS, SHEET_BYTES, STATES, VERDICT_BYTES};
 use crate::dice::Dice;
-use crate::families::{one_of_three, LIST, RUN, TABLES, VERDICT};
-use crate::handed::{Handed, NEXT};
-use crate::model::{Model, Shape, Sizes, ACTIONS, BOXES, CONDITIONS, FULL, STATES};
-use crate::sheet::{self, lines, padded, with_field, NUMBERS, SHEET_BYTES, WORDS};
+use crate::edits;
+use crate::families::{one_of_three, TABLES};
+use crate::handed::Handed;
+use crate::model::{Model, Shape, Sizes, CONDITIONS, FULL};
+use crate::sheet::{self, lines, padded, with_field, NUMBERS, WORDS};
 use std::io;
 
 /// Two states, two actions, two boxes, an arrow, and the largest number twice.
@@ -56,7 +58,7 @@ pub fn sheet_of(length: usize) -> Vec<u8> {
 }
 
 fn all_three(asker: &mut Asker, text: &[u8]) -> io::Result<()> {
-    asker.verdict(text, VERDICT)?;
+    asker.verdict(text, VERDICT_BYTES)?;
     asker.read(text, TABLES)?;
     for position in [0, 1, BOXES as u64 - 1, BOXES as u64] {
         asker.label(text, position)?;
@@ -74,7 +76,7 @@ fn replaced(text: &str, at: usize, line: &[u8]) -> Vec<u8> {
 fn sizes(asker: &mut Asker, dice: &mut Dice) -> io::Result<()> {
     let cases = [
         (STATES, 1, 1), (STATES + 1, 1, 1), (1, ACTIONS, 1), (1, ACTIONS + 1, 1), (1, 1, BOXES), (1, 1, BOXES + 1),
-        (STATES, 9, 8), (50, 16, 16), (25, ACTIONS, BOXES),
+        (STATES, 9, 8), (50, BOXES, BOXES), (25, ACTIONS, BOXES),
     ];
     for (states, actions, boxes) in cases {
         for shape in [Shape::Loose, Shape::Chain, Shape::Cells, Shape::Noise] {
@@ -106,7 +108,7 @@ fn bytes(asker: &mut Asker) -> io::Result<()> {
     }
     // 10 stands before 1.
     for text in ["", "x", TINY] {
-        for counts in [[0, 0, 0], [NEXT - 1, NEXT, TABLES[2]], [NEXT, NEXT + 1, TABLES[2]], [NEXT, NEXT, NEXT]] {
+        for counts in [[0, 0, 0], [NEXT_ENTRIES - 1, NEXT_ENTRIES, TABLES[2]], [NEXT_ENTRIES, NEXT_ENTRIES + 1, TABLES[2]], [NEXT_ENTRIES, NEXT_ENTRIES, NEXT_ENTRIES]] {
             asker.read(text.as_bytes(), counts)?;
         }
     }
@@ -158,7 +160,7 @@ fn records(asker: &mut Asker, dice: &mut Dice) -> io::Result<()> {
 
 /// Labels of each length and with each byte.
 fn labels(asker: &mut Asker, dice: &mut Dice) -> io::Result<()> {
-    for length in [0, 1, 2, 31, 32, 33, 34, 255, 256, 288] {
+    for length in [0, 1, 2, LABEL_BYTES - 1, LABEL_BYTES, LABEL_BYTES + 1, LABEL_BYTES + 2, 255, 256, 256 + LABEL_BYTES] {
         all_three(asker, &replaced(SMALL, 1, format!("box\t5\t{}\n", "b".repeat(length)).as_bytes()))?;
     }
     for byte in 0..=255 {
@@ -181,7 +183,7 @@ fn labels(asker: &mut Asker, dice: &mut Dice) -> io::Result<()> {
 
 fn all_four(asker: &mut Asker, handed: &Handed, run: &[u8]) -> io::Result<()> {
     asker.judge(handed)?;
-    asker.needed(handed, LIST)?;
+    asker.needed(handed, LIST_ENTRIES)?;
     asker.reached(handed)?;
     asker.purge(handed, 0, run, run.len())
 }
@@ -197,7 +199,7 @@ fn tables(asker: &mut Asker, dice: &mut Dice) -> io::Result<()> {
     for shape in [Shape::Loose, Shape::Cells, Shape::Noise, Shape::Chain] {
         let model = Model::random(dice, FULL, shape);
         let handed = Handed::of(dice, &model);
-        all_four(asker, &handed, &[0, 31, 5, 17, 0])?;
+        all_four(asker, &handed, &[0, ACTIONS as u8 - 1, 5, 17, 0])?;
     }
     // Each condition broken at the last place of a full model, and of a sheet with as many states.
     for condition in CONDITIONS {
@@ -207,10 +209,10 @@ fn tables(asker: &mut Asker, dice: &mut Dice) -> io::Result<()> {
             asker.judge(&handed)?;
             let model = Model::broken(dice, Sizes { states: STATES, actions: 9, boxes: 8 }, condition, true);
             let text = sheet::text(dice, &model);
-            asker.verdict(&text, VERDICT)?;
+            asker.verdict(&text, VERDICT_BYTES)?;
         }
     }
-    // Every box an owner and the states told apart at once: all 240 arrows are needed.
+    // Every box an owner and the states told apart at once: all arrows are needed.
     for _ in 0..2 {
         let mut model = Model::random(dice, FULL, Shape::Noise);
         model.owners = (0..ACTIONS).map(|action| action % BOXES).collect();
@@ -218,7 +220,7 @@ fn tables(asker: &mut Asker, dice: &mut Dice) -> io::Result<()> {
             row.fill(state as u16);
         }
         let handed = Handed::of(dice, &model);
-        asker.needed(&handed, LIST)?;
+        asker.needed(&handed, LIST_ENTRIES)?;
     }
     for turn in 0..20 * Handed::WAYS {
         let model = Model::any(dice, Sizes { states: 5, actions: 4, boxes: 3 });
@@ -232,7 +234,7 @@ fn tables(asker: &mut Asker, dice: &mut Dice) -> io::Result<()> {
             asker.purge(&handed, 3, &[0, 1], 2)?;
             asker.purge(&handed, 0, &[4], 1)?;
             asker.purge(&handed, 3, &[4], 2)?;
-            asker.needed(&handed, LIST + 1)?;
+            asker.needed(&handed, LIST_ENTRIES + 1)?;
             handed.next.pop();
             asker.reached(&handed)?;
         }
@@ -244,7 +246,7 @@ fn tables(asker: &mut Asker, dice: &mut Dice) -> io::Result<()> {
 fn runs(asker: &mut Asker, dice: &mut Dice) -> io::Result<()> {
     let model = Model::random(dice, Sizes { states: 1, actions: 4, boxes: 4 }, Shape::Loose);
     let handed = Handed::of(dice, &model);
-    for length in [0, 1, 2, RUN - 1, RUN, RUN + 1, RUN + 2, 4 * RUN] {
+    for length in [0, 1, 2, RUN_ACTIONS - 1, RUN_ACTIONS, RUN_ACTIONS + 1, RUN_ACTIONS + 2, 4 * RUN_ACTIONS] {
         let run: Vec<u8> = (0..length).map(|_| dice.below(4) as u8).collect();
         for position in [0, 3, 4] {
             asker.purge(&handed, position, &run, length)?;
@@ -267,8 +269,8 @@ pub fn limits(asker: &mut Asker, dice: &mut Dice) -> io::Result<()> {
     labels(asker, dice)?;
     tables(asker, dice)?;
     runs(asker, dice)?;
-    for room in [0, 1, VERDICT - 1, VERDICT + 1, 2 * VERDICT] {
+    for room in [0, 1, VERDICT_BYTES - 1, VERDICT_BYTES + 1, 2 * VERDICT_BYTES] {
         asker.verdict(SMALL.as_bytes(), room)?;
     }
-    Ok(())
+    edits::limits(asker, dice)
 }

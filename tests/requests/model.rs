@@ -1,11 +1,8 @@
 //! Random models with enough structure that views are accepted, each condition breaks first somewhere,
 //! refinement goes deep, boxes stay empty and states stay unreachable.
 
+use crate::bounds::{ACTIONS, BOXES, STATES};
 use crate::dice::Dice;
-
-pub const STATES: usize = 128;
-pub const ACTIONS: usize = 32;
-pub const BOXES: usize = 16;
 
 #[derive(Clone, Copy)]
 pub struct Sizes {

@@ -1,14 +1,13 @@
 //! Sheets: the text of a model, and texts that are damaged or longer.
 
+use crate::bounds::LABEL_BYTES;
 use crate::dice::Dice;
 use crate::model::Model;
 
-pub const SHEET_BYTES: usize = 32_768;
-
 fn label(dice: &mut Dice) -> String {
     let length = match dice.below(12) {
-        0 => 32,
-        1..=3 => dice.between(1, 32),
+        0 => LABEL_BYTES,
+        1..=3 => dice.between(1, LABEL_BYTES),
         _ => dice.between(1, 3),
     };
     (0..length).map(|_| dice.between(0x20, 0x7E) as u8 as char).collect()

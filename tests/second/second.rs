@@ -8,6 +8,7 @@
 use std::io::{self, BufReader, BufWriter, Read, Write};
 use std::ops::Range;
 
+mod edits;
 mod selftest;
 
 // ---------------------------------------------------------------------------
@@ -1226,6 +1227,7 @@ pub fn serve(source: &mut dyn Read, target: &mut dyn Write) -> io::Result<()> {
             b'P' => serve_purge(requests, answers)?,
             b'S' => serve_reachable(requests, answers)?,
             b'V' => serve_verdict(requests, answers)?,
+            b'E' => edits::serve_edits(requests, answers)?,
             _ => return Err(layout_error("an unknown letter")),
         }
         // A caller may wait for this answer before it sends the next request.

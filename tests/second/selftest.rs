@@ -1,6 +1,9 @@
-//! Checks of the second program: the cases of the scope, and brute force on small machines.
+//! Checks of the second program: the cases of the scope and of change request A2, and brute
+//! force on small machines and small lists of boxes.
 
+use super::edits::*;
 use super::*;
+use std::collections::{HashMap, HashSet};
 
 struct Checks {
     count: usize,
@@ -1308,6 +1311,895 @@ fn spoiled_sheets(checks: &mut Checks, dice: &mut Dice) {
 }
 
 // ---------------------------------------------------------------------------
+// Edits of a drawing
+// ---------------------------------------------------------------------------
+
+fn fresh_drawing() -> Drawing {
+    Drawing {
+        records: vec![BLANK_RECORD; MOST_BOXES],
+        history: vec![0; HISTORY_WORDS],
+        edits: 0,
+    }
+}
+
+/// A drawing of these boxes, each an id and its row of arrows, beside this history.
+fn drawing_from(boxes: &[(u32, u32)], past: &[Entry]) -> Drawing {
+    let mut drawing = fresh_drawing();
+    for (record, &(id, arrows)) in drawing.records.iter_mut().zip(boxes) {
+        *record = BoxRecord {
+            id,
+            live: 1,
+            arrows,
+        };
+    }
+    for entry in past {
+        push_entry(&mut drawing, entry);
+    }
+    drawing
+}
+
+fn push_entry(drawing: &mut Drawing, entry: &Entry) {
+    let place = drawing.edits as usize * ENTRY_WORDS;
+    drawing.history[place..place + ENTRY_WORDS].copy_from_slice(&entry.words());
+    drawing.edits += 1;
+}
+
+/// The same list with the last entry away and its words blank.
+fn without_last_entry(drawing: &Drawing) -> Drawing {
+    let mut rest = drawing.clone();
+    rest.edits -= 1;
+    rest.history[rest.edits as usize * ENTRY_WORDS..].fill(0);
+    rest
+}
+
+fn added(id: u32) -> Entry {
+    Entry {
+        kind: ADDED,
+        id,
+        ..BLANK_ENTRY
+    }
+}
+
+fn deleted(id: u32, at: u32, out: u32, into: u32) -> Entry {
+    Entry {
+        kind: DELETED,
+        at,
+        id,
+        out,
+        into,
+        ..BLANK_ENTRY
+    }
+}
+
+fn arrow(kind: u32, at: u32, to: u32) -> Entry {
+    Entry {
+        kind,
+        at,
+        to,
+        ..BLANK_ENTRY
+    }
+}
+
+fn live_count(drawing: &Drawing) -> usize {
+    drawing
+        .records
+        .iter()
+        .filter(|record| record.live == 1)
+        .count()
+}
+
+fn arrow_count(drawing: &Drawing) -> u32 {
+    drawing
+        .records
+        .iter()
+        .map(|record| record.arrows.count_ones())
+        .sum()
+}
+
+/// Do the steps in order; each must be taken.
+fn take_all(drawing: &mut Drawing, steps: &[Step]) -> bool {
+    steps.iter().all(|&step| take_step(drawing, step) == 0)
+}
+
+/// Red sends to Crypto and Bypass, and both of them to Black.
+fn four_box_story(checks: &mut Checks) {
+    let [red, crypto, bypass, black] = [10, 20, 30, 40];
+    let mut drawing = fresh_drawing();
+    let built = take_all(
+        &mut drawing,
+        &[
+            Step::Edit(Edit::Add(red)),
+            Step::Edit(Edit::Add(crypto)),
+            Step::Edit(Edit::Add(bypass)),
+            Step::Edit(Edit::Add(black)),
+            Step::Edit(Edit::Draw(red, crypto)),
+            Step::Edit(Edit::Draw(red, bypass)),
+            Step::Edit(Edit::Draw(crypto, black)),
+            Step::Edit(Edit::Draw(bypass, black)),
+        ],
+    );
+    checks.check("four boxes are built", built && drawing.edits == 8);
+    let four = drawing_from(
+        &[
+            (red, 0b0110),
+            (crypto, 0b1000),
+            (bypass, 0b1000),
+            (black, 0),
+        ],
+        &entries(&drawing),
+    );
+    checks.check("four boxes, four arrows", drawing == four);
+
+    let gone = take_step(&mut drawing, Step::Edit(Edit::Delete(bypass)));
+    let mut past = entries(&four);
+    past.push(deleted(bypass, 2, 0b1000, 0b0001));
+    let three = drawing_from(&[(red, 0b010), (crypto, 0b100), (black, 0)], &past);
+    checks.check("Bypass deleted", gone == 0 && drawing == three);
+    checks.check(
+        "its id stays away",
+        take_step(&mut drawing, Step::Edit(Edit::Add(bypass))) == 14 && drawing == three,
+    );
+
+    let back = take_step(&mut drawing, Step::Undo);
+    checks.check("Bypass is back", back == 0 && drawing == four);
+    let touching = drawing.records[2].arrows.count_ones() as usize
+        + drawing
+            .records
+            .iter()
+            .filter(|record| record.arrows >> 2 & 1 == 1)
+            .count();
+    checks.check(
+        "four arrows, two touch Bypass",
+        arrow_count(&drawing) == 4 && touching == 2,
+    );
+
+    let forgotten = take_all(
+        &mut drawing,
+        &[
+            Step::Edit(Edit::Delete(bypass)),
+            Step::Drop,
+            Step::Edit(Edit::Add(bypass)),
+        ],
+    );
+    let again = drawing_from(
+        &[(red, 0b010), (crypto, 0b100), (black, 0), (bypass, 0)],
+        &[added(bypass)],
+    );
+    checks.check(
+        "after dropping the id is free",
+        forgotten && drawing == again,
+    );
+}
+
+/// Take a step on a copy; a refused one must leave the copy as it was.
+fn number_of_step(checks: &mut Checks, drawing: &Drawing, step: Step) -> u32 {
+    let mut copy = drawing.clone();
+    let number = take_step(&mut copy, step);
+    checks.check("a refusal changes nothing", number == 0 || copy == *drawing);
+    number
+}
+
+const SIX_CALLS: [Step; 6] = [
+    Step::Edit(Edit::Add(77)),
+    Step::Edit(Edit::Delete(77)),
+    Step::Edit(Edit::Draw(77, 77)),
+    Step::Edit(Edit::Erase(77, 77)),
+    Step::Undo,
+    Step::Drop,
+];
+
+/// Sixteen boxes with the ids 100 to 115 and no arrows.
+fn sixteen_boxes() -> Vec<(u32, u32)> {
+    (100..116).map(|id| (id, 0)).collect()
+}
+
+fn refusals_by_the_edits(checks: &mut Checks) {
+    let two = [(5, 0b10), (0, 0)];
+    let few = drawing_from(&two, &[deleted(9, 0, 0, 0)]);
+    let full = drawing_from(&sixteen_boxes(), &[deleted(9, 0, 0, 0)]);
+    let mut spent = drawing_from(&sixteen_boxes(), &[deleted(9, 0, 0, 0)]);
+    while (spent.edits as usize) < MOST_EDITS {
+        push_entry(&mut spent, &added(115));
+    }
+    let cases = [
+        ("add", &few, Step::Edit(Edit::Add(u32::MAX)), 0),
+        ("add live", &few, Step::Edit(Edit::Add(0)), 14),
+        ("add deleted", &few, Step::Edit(Edit::Add(9)), 14),
+        ("add to sixteen", &full, Step::Edit(Edit::Add(1)), 15),
+        ("14 before 15", &full, Step::Edit(Edit::Add(100)), 14),
+        ("14 before 15 too", &full, Step::Edit(Edit::Add(9)), 14),
+        ("17 before 14", &spent, Step::Edit(Edit::Add(100)), 17),
+        ("17 before 15", &spent, Step::Edit(Edit::Add(1)), 17),
+        ("delete", &few, Step::Edit(Edit::Delete(0)), 0),
+        ("delete unknown", &few, Step::Edit(Edit::Delete(1)), 8),
+        ("delete deleted", &few, Step::Edit(Edit::Delete(9)), 8),
+        ("17 before 8", &spent, Step::Edit(Edit::Delete(1)), 17),
+        ("delete with 32", &spent, Step::Edit(Edit::Delete(100)), 17),
+        ("draw", &few, Step::Edit(Edit::Draw(0, 5)), 0),
+        ("draw standing", &few, Step::Edit(Edit::Draw(5, 0)), 18),
+        ("draw self", &few, Step::Edit(Edit::Draw(5, 5)), 18),
+        ("draw from unknown", &few, Step::Edit(Edit::Draw(1, 0)), 8),
+        ("draw to deleted", &few, Step::Edit(Edit::Draw(0, 9)), 8),
+        ("draw unknown self", &few, Step::Edit(Edit::Draw(1, 1)), 8),
+        ("draw with 32", &spent, Step::Edit(Edit::Draw(1, 1)), 17),
+        ("erase", &few, Step::Edit(Edit::Erase(5, 0)), 0),
+        ("erase absent", &few, Step::Edit(Edit::Erase(0, 5)), 18),
+        ("erase self", &few, Step::Edit(Edit::Erase(0, 0)), 18),
+        ("erase to unknown", &few, Step::Edit(Edit::Erase(5, 1)), 8),
+        ("erase unknown self", &few, Step::Edit(Edit::Erase(9, 9)), 8),
+        ("erase with 32", &spent, Step::Edit(Edit::Erase(100, 1)), 17),
+        ("undo", &few, Step::Undo, 0),
+        ("undo a seventeenth box", &full, Step::Undo, 12),
+        ("undo with 32", &spent, Step::Undo, 0),
+        ("undo nothing", &drawing_from(&two, &[]), Step::Undo, 16),
+        ("drop", &few, Step::Drop, 0),
+        ("drop nothing", &fresh_drawing(), Step::Drop, 0),
+    ];
+    for (name, drawing, step, number) in cases {
+        let answer = number_of_step(checks, drawing, step);
+        checks.check(name, answer == number);
+    }
+
+    // 10 before 12, 12 before the rest, in every call, and of both buffers.
+    for step in SIX_CALLS {
+        for (records, words) in [
+            (15, 192),
+            (17, 192),
+            (16, 191),
+            (16, 193),
+            (0, 0),
+            (100_000, 192),
+        ] {
+            let mut drawing = spent.clone();
+            drawing.records.resize(records, BLANK_RECORD);
+            drawing.history.resize(words, 0);
+            drawing.edits = u32::MAX;
+            let number = number_of_step(checks, &drawing, step);
+            checks.check("10", number == 10);
+        }
+        for edits in [33, 34, 1 << 16, u32::MAX] {
+            let mut drawing = spent.clone();
+            drawing.edits = edits;
+            let number = number_of_step(checks, &drawing, step);
+            checks.check("12 over 32", number == 12);
+        }
+    }
+}
+
+/// Lists and histories that break a rule, and the ones beside them that do not.
+fn rules_of_drawings(checks: &mut Checks) {
+    let two = [(5, 0b10), (0, 0)];
+    let record = |id, live, arrows| BoxRecord { id, live, arrows };
+    let lists = [
+        ("no box", vec![], true),
+        ("one box", vec![record(u32::MAX, 1, 0)], true),
+        ("live 2", vec![record(5, 2, 0)], false),
+        ("live most", vec![record(5, u32::MAX, 0)], false),
+        ("a gap", vec![BLANK_RECORD, record(5, 1, 0)], false),
+        ("id behind", vec![record(5, 1, 0), record(1, 0, 0)], false),
+        ("row behind", vec![record(5, 1, 0), record(0, 0, 1)], false),
+        ("ids", vec![record(5, 1, 0), record(6, 1, 1)], true),
+        ("id twice", vec![record(5, 1, 0), record(5, 1, 0)], false),
+        ("self", vec![record(5, 1, 0), record(6, 1, 2)], false),
+        ("not live", vec![record(5, 1, 0), record(6, 1, 4)], false),
+        ("bit 16", vec![record(5, 1, 1 << 16)], false),
+        ("bit 31", vec![record(5, 1, 1 << 31)], false),
+    ];
+    for (name, mut records, good) in lists {
+        records.resize(MOST_BOXES, BLANK_RECORD);
+        let drawing = Drawing {
+            records,
+            ..fresh_drawing()
+        };
+        for step in SIX_CALLS {
+            let number = number_of_step(checks, &drawing, step);
+            checks.check(name, (number != 12) == good);
+        }
+    }
+    let histories = [
+        ("added", vec![added(5)], true),
+        ("added twice", vec![added(5), added(5)], true),
+        ("added, deleted", vec![added(9), deleted(9, 0, 0, 0)], true),
+        ("deleted, added", vec![deleted(9, 0, 0, 0), added(9)], false),
+        (
+            "deleted twice",
+            vec![deleted(9, 0, 0, 0), deleted(9, 1, 0, 0)],
+            false,
+        ),
+        (
+            "deleted 9 and 8",
+            vec![deleted(9, 0, 0, 0), deleted(8, 1, 0, 0)],
+            true,
+        ),
+        ("live and deleted", vec![deleted(5, 1, 0, 0)], false),
+        ("live 0 and deleted", vec![deleted(0, 1, 0, 0)], false),
+        ("kind 0", vec![BLANK_ENTRY], false),
+        ("kind 5", vec![arrow(5, 0, 1)], false),
+        ("kind most", vec![arrow(u32::MAX, 0, 1)], false),
+        ("deleted at 15", vec![deleted(9, 15, 0x7fff, 1)], true),
+        ("deleted at 16", vec![deleted(9, 16, 0, 0)], false),
+        ("deleted at most", vec![deleted(9, u32::MAX, 0, 0)], false),
+        ("out to 16", vec![deleted(9, 0, 1 << 16, 0)], false),
+        ("into from 31", vec![deleted(9, 0, 0, 1 << 31)], false),
+        ("out to itself", vec![deleted(9, 3, 8, 0)], false),
+        ("into from itself", vec![deleted(9, 3, 0, 8)], false),
+        ("drawn", vec![arrow(DRAWN, 15, 0)], true),
+        ("drawn at 16", vec![arrow(DRAWN, 16, 0)], false),
+        ("erased to 16", vec![arrow(ERASED, 0, 16)], false),
+        ("erased to most", vec![arrow(ERASED, 0, u32::MAX)], false),
+        ("drawn to itself", vec![arrow(DRAWN, 3, 3)], false),
+        ("erased to itself", vec![arrow(ERASED, 0, 0)], false),
+        (
+            "an arrow has no id",
+            vec![deleted(9, 0, 0, 0), arrow(DRAWN, 0, 1)],
+            true,
+        ),
+    ];
+    for (name, past, good) in histories {
+        let mut drawing = drawing_from(&two, &past);
+        let number = number_of_step(checks, &drawing, Step::Drop);
+        checks.check(name, number == if good { 0 } else { 12 });
+        // Beyond the count nothing is looked at, and what is given back is blank there.
+        drawing.edits = 0;
+        let number = take_step(&mut drawing, Step::Edit(Edit::Delete(5)));
+        let after = drawing_from(&[(0, 0)], &[deleted(5, 0, 0b10, 0)]);
+        checks.check("beyond the count", number == 0 && drawing == after);
+    }
+    // Words that a kind doesn't use, each in turn.
+    for (entry, unused) in [
+        (added(9), vec![1, 2, 4, 5]),
+        (deleted(9, 0, 2, 2), vec![2]),
+        (arrow(DRAWN, 0, 1), vec![3, 4, 5]),
+        (arrow(ERASED, 0, 1), vec![3, 4, 5]),
+    ] {
+        for place in unused {
+            let mut words = entry.words();
+            words[place] = 1;
+            let drawing = drawing_from(&two, &[Entry::from_words(&words)]);
+            let number = number_of_step(checks, &drawing, Step::Drop);
+            checks.check("unused word", number == 12);
+        }
+    }
+}
+
+/// Whether a call makes this entry on a list built for it; no other list would do better.
+fn some_call_makes(entry: &Entry) -> bool {
+    let mut boxes = sixteen_boxes();
+    let id_at = |position: u32| 100 + position.min(15);
+    let (before, edit) = match entry.kind {
+        ADDED => (fresh_drawing(), Edit::Add(entry.id)),
+        DELETED => {
+            let at = entry.at.min(15) as usize;
+            for (position, (id, row)) in boxes.iter_mut().enumerate() {
+                // Sixteen ids that differ, with the deleted one at its place.
+                *id = entry.id ^ position as u32 ^ at as u32;
+                *row = (entry.into >> position & 1) << at;
+            }
+            boxes[at].1 = entry.out & 0xffff & !(1 << at);
+            (drawing_from(&boxes, &[]), Edit::Delete(entry.id))
+        }
+        DRAWN => (
+            drawing_from(&boxes, &[]),
+            Edit::Draw(id_at(entry.at), id_at(entry.to)),
+        ),
+        ERASED => {
+            for (position, (_, row)) in boxes.iter_mut().enumerate() {
+                *row = 0xffff & !(1 << position);
+            }
+            (
+                drawing_from(&boxes, &[]),
+                Edit::Erase(id_at(entry.at), id_at(entry.to)),
+            )
+        }
+        _ => return false,
+    };
+    edited(&before, edit).is_ok_and(|after| entries(&after) == [*entry])
+}
+
+/// A history of one entry is good exactly when some call makes that entry.
+fn entries_that_calls_make(checks: &mut Checks, dice: &mut Dice) {
+    let mut good = 0;
+    for _ in 0..20_000 {
+        let boxes = random_boxes(dice);
+        let mut words = random_entry(dice, &boxes).words();
+        if dice.below(2) == 0 {
+            let edges = [0, 1, 2, 3, 4, 5, 15, 16, 0xffff, 1 << 16, u32::MAX];
+            words[dice.below(ENTRY_WORDS)] = edges[dice.below(edges.len())];
+        }
+        let entry = Entry::from_words(&words);
+        let is_taken = dropped(&drawing_from(&[], &[entry])).is_ok();
+        checks.check("entry of a call", is_taken == some_call_makes(&entry));
+        good += usize::from(is_taken);
+    }
+    checks.check("good and bad entries", (2_000..18_000).contains(&good));
+}
+
+/// The numbers in the order 17, 8, 14, 15, 16, 18, straight from the lent numbers of a
+/// drawing that keeps the rules.
+fn refusal_by_plain_words(drawing: &Drawing, step: Step) -> u32 {
+    let past = entries(drawing);
+    let position = |id: u32| {
+        drawing
+            .records
+            .iter()
+            .position(|record| record.live == 1 && record.id == id)
+    };
+    let deleted = |id: u32| {
+        past.iter()
+            .any(|entry| entry.kind == DELETED && entry.id == id)
+    };
+    let stands = |source: usize, target: usize| drawing.records[source].arrows >> target & 1 == 1;
+    match step {
+        Step::Edit(_) if past.len() == MOST_EDITS => 17,
+        Step::Edit(Edit::Add(id)) if position(id).is_some() || deleted(id) => 14,
+        Step::Edit(Edit::Add(_)) if live_count(drawing) == MOST_BOXES => 15,
+        Step::Edit(Edit::Delete(id)) if position(id).is_none() => 8,
+        Step::Edit(Edit::Draw(source, target)) => match (position(source), position(target)) {
+            (Some(from), Some(to)) if from == to || stands(from, to) => 18,
+            (Some(_), Some(_)) => 0,
+            _ => 8,
+        },
+        Step::Edit(Edit::Erase(source, target)) => match (position(source), position(target)) {
+            (Some(from), Some(to)) if from == to || !stands(from, to) => 18,
+            (Some(_), Some(_)) => 0,
+            _ => 8,
+        },
+        Step::Undo if past.is_empty() => 16,
+        _ => 0,
+    }
+}
+
+/// A row of arrows once the position is gone: the bits above it move down by one.
+fn squeezed(row: u32, gone: usize) -> u32 {
+    let below = (1 << gone) - 1;
+    row & below | row >> 1 & !below
+}
+
+/// A row of arrows once there is a new position: the bits from it on move up by one.
+fn spread(row: u32, new: usize) -> u32 {
+    let below = (1 << new) - 1;
+    row & below | (row & !below) << 1
+}
+
+/// The drawing after an edit that is not refused, worked out on the bits.
+fn edited_by_bits(drawing: &Drawing, edit: Edit) -> Drawing {
+    let mut after = drawing.clone();
+    let position = |id: u32| {
+        drawing
+            .records
+            .iter()
+            .position(|record| record.live == 1 && record.id == id)
+            .unwrap()
+    };
+    let entry = match edit {
+        Edit::Add(id) => {
+            let last = live_count(drawing);
+            after.records[last] = BoxRecord {
+                id,
+                live: 1,
+                arrows: 0,
+            };
+            added(id)
+        }
+        Edit::Delete(id) => {
+            let at = position(id);
+            let out = after.records.remove(at).arrows;
+            after.records.push(BLANK_RECORD);
+            for record in &mut after.records {
+                record.arrows = squeezed(record.arrows, at);
+            }
+            let into = (0..MOST_BOXES)
+                .filter(|&source| drawing.records[source].arrows >> at & 1 == 1)
+                .map(|source| 1 << source)
+                .sum();
+            deleted(id, at as u32, out, into)
+        }
+        Edit::Draw(source, target) => {
+            let (at, to) = (position(source), position(target));
+            after.records[at].arrows |= 1 << to;
+            arrow(DRAWN, at as u32, to as u32)
+        }
+        Edit::Erase(source, target) => {
+            let (at, to) = (position(source), position(target));
+            after.records[at].arrows &= !(1 << to);
+            arrow(ERASED, at as u32, to as u32)
+        }
+    };
+    push_entry(&mut after, &entry);
+    after
+}
+
+/// A call on ids from 0 to 19, so that sixteen live boxes and taken ids come often.
+/// The lean says which call comes most: adding, deleting, drawing, erasing or undo.
+fn random_call(dice: &mut Dice, lean: usize) -> Step {
+    let first = dice.below(20) as u32;
+    let second = dice.below(20) as u32;
+    let choice = if dice.below(2) == 0 {
+        lean
+    } else {
+        dice.below(5)
+    };
+    match choice {
+        0 => Step::Edit(Edit::Add(first)),
+        1 => Step::Edit(Edit::Delete(first)),
+        2 => Step::Edit(Edit::Draw(first, second)),
+        3 => Step::Edit(Edit::Erase(first, second)),
+        _ if dice.below(40) == 0 => Step::Drop,
+        _ => Step::Undo,
+    }
+}
+
+/// From a fresh list, with a stack of snapshots: undo gives back the one on top.
+fn calls_from_a_fresh_list(checks: &mut Checks, dice: &mut Dice) {
+    let mut seen = HashSet::new();
+    for _ in 0..600 {
+        let mut drawing = fresh_drawing();
+        let mut snapshots: Vec<Drawing> = Vec::new();
+        let mut lean = 0;
+        for call in 0..120 {
+            if call % 15 == 14 {
+                lean = dice.below(5);
+            }
+            let step = random_call(dice, lean);
+            let before = drawing.clone();
+            let number = take_step(&mut drawing, step);
+            seen.insert(number);
+            let expected = refusal_by_plain_words(&before, step);
+            checks.check("number of a call", number == expected);
+            let after = match step {
+                _ if number != 0 => before,
+                Step::Edit(edit) => {
+                    snapshots.push(before);
+                    edited_by_bits(&snapshots[snapshots.len() - 1], edit)
+                }
+                Step::Undo => snapshots.pop().unwrap(),
+                _ => {
+                    snapshots.clear();
+                    Drawing {
+                        records: before.records,
+                        ..fresh_drawing()
+                    }
+                }
+            };
+            checks.check("drawing after a call", drawing == after);
+            checks.check("snapshots", snapshots.len() == drawing.edits as usize);
+        }
+        while let Some(before) = snapshots.pop() {
+            let number = take_step(&mut drawing, Step::Undo);
+            checks.check("undo to the start", number == 0 && drawing == before);
+        }
+    }
+    checks.check(
+        "every number of good drawings",
+        seen == HashSet::from([0, 8, 14, 15, 16, 17, 18]),
+    );
+}
+
+/// Undo as DECISIONS closes it, for a drawing that keeps the rules: the tests that are left,
+/// and the list before by bits; none for 12.
+fn undone_by_bits(drawing: &Drawing) -> Option<Drawing> {
+    let last = *entries(drawing).last()?;
+    let mut before = without_last_entry(drawing);
+    let live = live_count(drawing);
+    let (at, to) = (last.at as usize, last.to as usize);
+    let reaches = |source: usize, target: usize| drawing.records[source].arrows >> target & 1 == 1;
+    let holds = match last.kind {
+        ADDED => {
+            live > 0
+                && drawing.records[live - 1].id == last.id
+                && drawing.records[live - 1].arrows == 0
+                && (0..live).all(|source| !reaches(source, live - 1))
+        }
+        DELETED => {
+            let others = ((1 << (live + 1)) - 1) & !(1 << at);
+            live < MOST_BOXES && at <= live && (last.out | last.into) & !others == 0
+        }
+        DRAWN => at < live && to < live && reaches(at, to),
+        _ => at < live && to < live && !reaches(at, to),
+    };
+    if !holds {
+        return None;
+    }
+    match last.kind {
+        ADDED => before.records[live - 1] = BLANK_RECORD,
+        DELETED => {
+            before.records.pop();
+            for record in &mut before.records {
+                record.arrows = spread(record.arrows, at);
+            }
+            before.records.insert(
+                at,
+                BoxRecord {
+                    id: last.id,
+                    live: 1,
+                    arrows: last.out,
+                },
+            );
+            for source in (0..MOST_BOXES).filter(|source| last.into >> source & 1 == 1) {
+                before.records[source].arrows |= 1 << at;
+            }
+        }
+        _ => before.records[at].arrows ^= 1 << to,
+    }
+    Some(before)
+}
+
+/// A list that keeps the rules, with ids from 100 on in any order.
+fn random_boxes(dice: &mut Dice) -> Vec<(u32, u32)> {
+    // The full list and the ones beside it come often.
+    let live = if dice.below(3) == 0 {
+        dice.from(14..17)
+    } else {
+        dice.below(17)
+    };
+    let all = (1 << live) - 1;
+    let spare = dice.below(4);
+    (0..live)
+        .map(|position| {
+            let row = (0..spare).fold(dice.throw(), |row, _| row & dice.throw()) as u32;
+            let id = 100 + (7 * position as u32 + live as u32) % 17;
+            (id, row & all & !(1 << position))
+        })
+        .collect()
+}
+
+/// An entry that fits the list, or nearly.
+fn random_entry(dice: &mut Dice, boxes: &[(u32, u32)]) -> Entry {
+    let near = boxes.len() + 2;
+    let at = dice.below(near.min(MOST_BOXES)) as u32;
+    let to = dice.below(near.min(MOST_BOXES)) as u32;
+    // A row of few bits seldom leaves the list.
+    let row = |dice: &mut Dice| {
+        (0..dice.below(3)).fold(0, |row, _| row | 1 << dice.below(near)) & 0xffff & !(1 << at)
+    };
+    match dice.below(4) {
+        0 if dice.below(4) > 0 => added(boxes.last().map_or(1, |last| last.0)),
+        0 => added(100 + dice.below(20) as u32),
+        1 => {
+            let out = row(dice);
+            let into = row(dice);
+            deleted(1 + dice.below(4) as u32, at, out, into)
+        }
+        2 => arrow(DRAWN, at, to),
+        _ => arrow(ERASED, at, to),
+    }
+}
+
+/// Search and closed form give the same, on lists that no calls need have built.
+fn undo_against_the_closed_form(checks: &mut Checks, dice: &mut Dice) {
+    let mut taken = [0; 5];
+    let mut refused = [0; 5];
+    for _ in 0..12_000 {
+        let mut boxes = random_boxes(dice);
+        let mut past = Vec::new();
+        for _ in 0..dice.from(1..5) {
+            past.push(random_entry(dice, &boxes));
+        }
+        let last = past[past.len() - 1];
+        if last.kind == ADDED && dice.below(2) == 0 {
+            // Clear the last box of arrows, or all but one end of one.
+            let live = boxes.len();
+            for (_, row) in &mut boxes {
+                *row &= (1 << live >> 1) - 1;
+            }
+            if live > 0 && dice.below(3) > 0 {
+                boxes[live - 1].1 = 0;
+            }
+        }
+        let mut drawing = drawing_from(&boxes, &past);
+        // Words beyond the count are not looked at.
+        let beyond = past.len() * ENTRY_WORDS + dice.below(30);
+        drawing.history[beyond] = dice.throw() as u32;
+        let answer = undone(&drawing).map_err(|refusal| refusal.number);
+        if dropped(&drawing).is_err() {
+            checks.check("undo of a bad drawing", answer == Err(12));
+            continue;
+        }
+        match undone_by_bits(&drawing) {
+            Some(before) => {
+                taken[last.kind as usize] += 1;
+                checks.check("undo by bits", answer == Ok(before));
+            }
+            None => {
+                refused[last.kind as usize] += 1;
+                checks.check("no undo by bits", answer == Err(12));
+            }
+        }
+    }
+    checks.check(
+        "undo taken and refused for each kind",
+        (1..5).all(|kind| taken[kind] > 200 && refused[kind] > 200),
+    );
+    println!(
+        "undo of any list: taken {:?}, refused {:?}, by kind",
+        &taken[1..],
+        &refused[1..]
+    );
+}
+
+/// Every list of at most this many boxes with ids from the pool.
+fn all_lists(pool: &[u32], most: usize) -> Vec<Vec<(u32, u32)>> {
+    let mut orders: Vec<Vec<u32>> = vec![Vec::new()];
+    let mut place = 0;
+    while place < orders.len() {
+        let order = orders[place].clone();
+        place += 1;
+        for &id in pool {
+            if order.len() < most && !order.contains(&id) {
+                orders.push([&order[..], &[id]].concat());
+            }
+        }
+    }
+    let mut lists = Vec::new();
+    for order in orders {
+        let live = order.len();
+        for bits in 0..1u32 << (live * live) {
+            let rows: Vec<u32> = (0..live)
+                .map(|position| bits >> (live * position) & ((1 << live) - 1))
+                .collect();
+            if (0..live).all(|position| rows[position] >> position & 1 == 0) {
+                lists.push(order.iter().copied().zip(rows).collect());
+            }
+        }
+    }
+    lists
+}
+
+/// The request's sentence with nothing left out: every list there is, every edit of it.
+fn undo_against_all_lists(checks: &mut Checks) {
+    let pool = [0, 5, u32::MAX];
+    let mut edits = Vec::new();
+    for id in pool {
+        edits.extend([Edit::Add(id), Edit::Delete(id)]);
+        for other in pool {
+            edits.extend([Edit::Draw(id, other), Edit::Erase(id, other)]);
+        }
+    }
+    let lists = all_lists(&pool, 3);
+    checks.check("all lists", lists.len() == 1 + 3 + 6 * 4 + 6 * 64);
+    let rows = |at: u32| (0..16u32).filter(move |row| row >> at & 1 == 0);
+    let mut questions = Vec::new();
+    for id in pool {
+        questions.push(added(id));
+        for at in 0..4 {
+            for out in rows(at) {
+                questions.extend(rows(at).map(|into| deleted(id, at, out, into)));
+            }
+        }
+    }
+    for at in 0..4 {
+        for to in (0..4).filter(|&to| to != at) {
+            questions.extend([arrow(DRAWN, at, to), arrow(ERASED, at, to)]);
+        }
+    }
+    let mut given = 0;
+    for rest in [vec![], vec![added(5)], vec![deleted(5, 1, 0, 1)]] {
+        let mut before_each: HashMap<Drawing, Vec<Drawing>> = HashMap::new();
+        for list in &lists {
+            let before = drawing_from(list, &rest);
+            for &edit in &edits {
+                if let Ok(after) = edited(&before, edit) {
+                    before_each.entry(after).or_default().push(before.clone());
+                }
+            }
+        }
+        for list in &lists {
+            // The list before a deletion is one longer, and four boxes are not among the lists.
+            for entry in questions
+                .iter()
+                .filter(|entry| entry.kind != DELETED || list.len() < 3)
+            {
+                let mut after = drawing_from(list, &rest);
+                push_entry(&mut after, entry);
+                let answer = undone(&after).map_err(|refusal| refusal.number);
+                match before_each.get(&after).map(Vec::as_slice) {
+                    None => checks.check("no list before", answer == Err(12)),
+                    Some([before]) => {
+                        given += 1;
+                        checks.check("the list before", answer.as_ref() == Ok(before));
+                    }
+                    Some(_) => checks.check("one list before", false),
+                }
+            }
+        }
+    }
+    checks.check("undo is given", given > 1_000);
+    println!("undo against all small lists: given {given} times");
+}
+
+/// Any numbers and any lengths: every call comes back, and a refused one changes nothing.
+fn drawings_of_any_numbers(checks: &mut Checks, dice: &mut Dice) {
+    let edges = [0, 1, 2, 3, 4, 15, 16, 17, 32, 33, 0xffff, 1 << 31, u32::MAX];
+    for round in 0..1_500 {
+        let boxes = random_boxes(dice);
+        let mut drawing = drawing_from(&boxes, &[]);
+        // Long random histories are seldom good, so half of them are short.
+        let most = if round % 2 == 0 { MOST_EDITS } else { 3 };
+        for _ in 0..dice.below(most + 1) {
+            let entry = random_entry(dice, &boxes);
+            push_entry(&mut drawing, &entry);
+        }
+        if round % 3 == 0 {
+            drawing.records.resize(dice.from(14..19), BLANK_RECORD);
+            drawing.history.resize(dice.from(190..195), 0);
+        }
+        for _ in 0..12 {
+            let number = edges[dice.below(edges.len())];
+            let write = match dice.below(8) {
+                0 => Step::WriteCount { number },
+                1..=3 => Step::WriteList {
+                    place: dice.below(60) as u32,
+                    number,
+                },
+                _ => Step::WriteHistory {
+                    place: dice.below(200) as u32,
+                    number,
+                },
+            };
+            checks.check("the host writes", take_step(&mut drawing, write) == 0);
+            for step in SIX_CALLS {
+                let right_lengths = drawing.records.len() == 16 && drawing.history.len() == 192;
+                let is_10 = number_of_step(checks, &drawing, step) == 10;
+                checks.check("10 by lengths", is_10 != right_lengths);
+            }
+        }
+    }
+    let mut large = Drawing {
+        records: vec![
+            BoxRecord {
+                id: u32::MAX,
+                live: u32::MAX,
+                arrows: u32::MAX,
+            };
+            100_000
+        ],
+        history: vec![u32::MAX; 100_000],
+        edits: u32::MAX,
+    };
+    for step in SIX_CALLS {
+        let refused = number_of_step(checks, &large, step);
+        checks.check("large and wrong", refused == 10);
+    }
+    large.records.truncate(MOST_BOXES);
+    large.history.truncate(HISTORY_WORDS);
+    for step in SIX_CALLS {
+        let refused = number_of_step(checks, &large, step);
+        checks.check("wrong throughout", refused == 12);
+    }
+}
+
+/// What the host writes goes to one number; a place beyond the buffer is left alone.
+fn numbers_written_by_the_host(checks: &mut Checks) {
+    let mut drawing = fresh_drawing();
+    let before = drawing.clone();
+    for (place, number) in [(48, 9), (u32::MAX, 9)] {
+        take_step(&mut drawing, Step::WriteList { place, number });
+    }
+    for (place, number) in [(192, 9), (u32::MAX, 9)] {
+        take_step(&mut drawing, Step::WriteHistory { place, number });
+    }
+    checks.check("beyond the buffers", drawing == before);
+    for (place, number) in [(3, 7), (4, 8), (5, 9), (47, 6)] {
+        take_step(&mut drawing, Step::WriteList { place, number });
+    }
+    for (place, number) in [(0, 7), (191, 8)] {
+        take_step(&mut drawing, Step::WriteHistory { place, number });
+    }
+    take_step(&mut drawing, Step::WriteCount { number: u32::MAX });
+    let mut after = before;
+    after.records[1] = BoxRecord {
+        id: 7,
+        live: 8,
+        arrows: 9,
+    };
+    after.records[15].arrows = 6;
+    after.history[0] = 7;
+    after.history[191] = 8;
+    after.edits = u32::MAX;
+    checks.check("within the buffers", drawing == after);
+}
+
+// ---------------------------------------------------------------------------
 // The stream
 // ---------------------------------------------------------------------------
 
@@ -1341,6 +2233,101 @@ fn put_model(request: &mut Vec<u8>, model: &Model) {
         request.extend(id.to_le_bytes());
     }
     request.extend(model.arrows.iter().flatten().map(|&arrow| u8::from(arrow)));
+}
+
+fn put_numbers(request: &mut Vec<u8>, numbers: &[u32]) {
+    request.extend(numbers.iter().flat_map(|number| number.to_le_bytes()));
+}
+
+/// A fresh drawing, two boxes and an arrow, then each kind of step in turn.
+fn stream_of_edits(checks: &mut Checks) {
+    let answer_to = |request: &[u8]| {
+        let mut answer = Vec::new();
+        serve(&mut &request[..], &mut answer).map(|()| answer)
+    };
+    // Each step, its number, then the two records, two entries and count that it leaves.
+    let steps: [(u8, u32, u32); 9] = [
+        (1, 70_000, 0),
+        (1, 6, 0),
+        (3, 6, 70_000),
+        (2, 70_000, 0),
+        (5, 0, 0),
+        (4, 70_000, 6),
+        (7, 5, 3),
+        (5, 0, 0),
+        (9, 77, 1),
+    ];
+    let add = [1, 0, 0, 70_000, 0, 0];
+    let add_6 = [1, 0, 0, 6, 0, 0];
+    let draw = [3, 1, 0, 0, 0, 0];
+    let delete = [2, 0, 0, 70_000, 0, 2];
+    let one = [70_000, 1, 0, 0, 0, 0];
+    let two = [70_000, 1, 0, 6, 1, 0];
+    let drawn = [70_000, 1, 0, 6, 1, 1];
+    let spoiled = [70_000, 1, 0, 6, 1, 3];
+    let left: [(u32, [u32; 6], Vec<[u32; 6]>, u32); 9] = [
+        (0, one, vec![add], 1),
+        (0, two, vec![add, add_6], 2),
+        (0, drawn, vec![add, add_6, draw], 3),
+        (0, [6, 1, 0, 0, 0, 0], vec![add, add_6, draw, delete], 4),
+        (0, drawn, vec![add, add_6, draw], 3),
+        (18, drawn, vec![add, add_6, draw], 3),
+        (0, spoiled, vec![add, add_6, draw], 3),
+        (12, spoiled, vec![add, add_6, draw], 3),
+        (0, spoiled, vec![add, add_6, draw], 1),
+    ];
+    let mut request = vec![b'E'];
+    put_numbers(&mut request, &[16]);
+    put_numbers(&mut request, &[0; 48]);
+    put_numbers(&mut request, &[192]);
+    put_numbers(&mut request, &[0; 192]);
+    put_numbers(&mut request, &[0, steps.len() as u32]);
+    for (kind, first, second) in steps {
+        request.push(kind);
+        put_numbers(&mut request, &[first, second]);
+    }
+    let mut expected = Vec::new();
+    for (number, records, entries, count) in left {
+        let mut history = entries.concat();
+        history.resize(HISTORY_WORDS, 0);
+        put_numbers(&mut expected, &[number, 16]);
+        put_numbers(&mut expected, &records);
+        put_numbers(&mut expected, &[0; 42]);
+        put_numbers(&mut expected, &[192]);
+        put_numbers(&mut expected, &history);
+        put_numbers(&mut expected, &[count]);
+    }
+    checks.check("stream E", answer_to(&request).unwrap() == expected);
+
+    let mut small = vec![b'E'];
+    put_numbers(&mut small, &[1, 7, 8, 9, 2, 5, 6, 4]);
+    let mut no_steps = small.clone();
+    put_numbers(&mut no_steps, &[0]);
+    checks.check(
+        "stream E no steps",
+        answer_to(&no_steps).unwrap().is_empty(),
+    );
+    put_numbers(&mut small, &[2]);
+    for (kind, number) in [(6, 10), (8, 0)] {
+        small.push(kind);
+        put_numbers(&mut small, &[1, number]);
+    }
+    let mut expected = Vec::new();
+    put_numbers(&mut expected, &[10, 1, 7, 8, 9, 2, 5, 6, 4]);
+    put_numbers(&mut expected, &[0, 1, 7, 8, 9, 2, 5, 0, 4]);
+    checks.check(
+        "stream E wrong lengths",
+        answer_to(&small).unwrap() == expected,
+    );
+    checks.check(
+        "stream E cut short",
+        answer_to(&small[..small.len() - 1]).is_err(),
+    );
+    for kind in [0, 10, 255] {
+        let place = small.len() - 9;
+        small[place] = kind;
+        checks.check("stream E unknown kind", answer_to(&small).is_err());
+    }
 }
 
 fn stream(checks: &mut Checks) {
@@ -1492,7 +2479,17 @@ pub fn selftest() -> i32 {
     structured_machines(&mut checks, &mut dice);
     near_the_register_machine(&mut checks, &mut dice);
     spoiled_sheets(&mut checks, &mut dice);
+    four_box_story(&mut checks);
+    refusals_by_the_edits(&mut checks);
+    rules_of_drawings(&mut checks);
+    entries_that_calls_make(&mut checks, &mut dice);
+    calls_from_a_fresh_list(&mut checks, &mut dice);
+    undo_against_the_closed_form(&mut checks, &mut dice);
+    undo_against_all_lists(&mut checks);
+    drawings_of_any_numbers(&mut checks, &mut dice);
+    numbers_written_by_the_host(&mut checks);
     stream(&mut checks);
+    stream_of_edits(&mut checks);
     println!("second: {} checks, {} failed", checks.count, checks.failed);
     i32::from(checks.failed > 0)
 }

@@ -4,12 +4,13 @@
 #include <cstdlib>
 #include <fstream>
 #include <string>
+#include <zarpalume.h>
 
 namespace {
 
 constexpr std::size_t states = 64;
 constexpr std::size_t actions = 16;
-constexpr std::size_t boxes = 16;
+constexpr std::size_t boxes = ZARPALUME_BOXES;
 
 // Numbers that look random (xorshift64*).
 class Dice {

@@ -11,3 +11,7 @@ pub mod Copied
 pub mod Loops
 pub mod Tables
 pub mod Sets
+pub mod Bits
+pub mod Chosen
+pub mod Firsts
+pub mod Grown

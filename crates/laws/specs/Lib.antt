@@ -5,3 +5,4 @@ pub mod Lists
 pub mod Order
 pub mod Sets
 pub mod Filled
+pub mod Bits

@@ -45,3 +45,9 @@ RUN-ACTIONS = 1024
 
 abbrev pub VERDICT-BYTES : ℕ
 VERDICT-BYTES = 8192
+
+abbrev pub EDITS : ℕ
+EDITS = 32
+
+abbrev pub EDIT-WORDS : ℕ
+EDIT-WORDS = 6 * EDITS

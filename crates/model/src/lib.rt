@@ -48,6 +48,11 @@ pub const RUN_ACTIONS: usize = 1024;
 
 pub const VERDICT_BYTES: usize = 8192;
 
+// The edits of a history, and the words that it takes, six to an edit.
+pub const EDITS: usize = 32;
+
+pub const EDIT_WORDS: usize = 6 * EDITS;
+
 // The kind of purge: by the arrows into one box, or through the boxes between.
 pub enum Kind {
     Plain,

@@ -1,4 +1,5 @@
 // The verdict on a sheet, and the one call for a host.
+mod editing;
 mod lines;
 
 use model::Machine;

@@ -1,0 +1,16 @@
+pub mod Asked
+pub mod Found
+pub mod Words
+pub mod Past
+pub mod Fine
+pub mod Moved
+pub mod Gave
+pub mod Listed
+pub mod Restored
+pub mod Stays
+pub mod Fits
+pub mod Called
+pub mod Again
+pub mod Promises
+pub mod Story
+pub mod Fakes

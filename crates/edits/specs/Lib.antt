@@ -1,0 +1,13 @@
+pub mod Records
+pub mod History
+pub mod Allowed
+pub mod Moved
+pub mod Plan
+pub mod Done
+pub mod Fits
+pub mod Edited
+pub mod Gives
+pub mod Private
+pub mod Promises
+pub mod Story
+pub mod Demand
