@@ -63,6 +63,11 @@ Reading read_file(const std::string &name, std::size_t most) {
     return read_open(file.number(), most);
 }
 
+bool is_pipe(const std::string &name) noexcept {
+    struct stat about {};
+    return ::stat(name.c_str(), &about) == 0 && !S_ISREG(about.st_mode) && !S_ISDIR(about.st_mode);
+}
+
 Reading read_open(int file, std::size_t most) {
     std::string bytes;
     while (bytes.size() < most) {
@@ -78,6 +83,17 @@ Reading read_open(int file, std::size_t most) {
         }
     }
     return {std::move(bytes)};
+}
+
+bool write_all(int file, std::string_view bytes) {
+    while (!bytes.empty()) {
+        const ssize_t count = ::write(file, bytes.data(), bytes.size());
+        if (count < 0 && errno != EINTR) {
+            return false;
+        }
+        bytes.remove_prefix(static_cast<std::size_t>(count < 0 ? 0 : count));
+    }
+    return true;
 }
 
 std::string last_problem() {

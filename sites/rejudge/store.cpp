@@ -23,17 +23,6 @@ std::string new_name(const std::string &verdict) {
     return verdict + ".new";
 }
 
-bool write_all(int file, std::string_view bytes) {
-    while (!bytes.empty()) {
-        const ssize_t count = ::write(file, bytes.data(), bytes.size());
-        if (count < 0 && errno != EINTR) {
-            return false;
-        }
-        bytes.remove_prefix(static_cast<std::size_t>(count < 0 ? 0 : count));
-    }
-    return true;
-}
-
 bool lock(int file, int kind) {
     while (::flock(file, kind) != 0) {
         if (errno != EINTR) {

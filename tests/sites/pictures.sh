@@ -71,13 +71,13 @@ draw_tells_what_it_could_not_do() {
   in=$(room undrawn)
   mkdir "$in/folder.svg"
   ./draw examples/gateway.sheet "$in/folder.svg" 2>"$work/said"
-  [[ $? == 2 && $(tail -n 1 "$work/said") == "draw: $in/folder.svg could not be drawn" && $(find "$in") == "$in"$'\n'"$in/folder.svg" ]] || return 1
+  [[ $? == 2 && $(tail -n 1 "$work/said") == "draw: $in/folder.svg: Is a directory" && $(find "$in") == "$in"$'\n'"$in/folder.svg" ]] || return 1
   # A limit on the size of files stands for a disk that is full just before the end, where the signal is ignored.
   ./draw examples/gateway.sheet "$in/whole.svg" || return 1
   (trap '' XFSZ && ulimit -f $((($(wc -c <"$in/whole.svg") - 1) / 1024)) && exec ./draw examples/gateway.sheet "$in/full.svg" 2>/dev/null)
   [[ $? == 2 && $(ls "$in") == $'folder.svg\nwhole.svg' ]] || return 1
   ./draw examples/gateway.sheet "$in/nowhere/"$'\n\033.svg' 2>"$work/said"
-  [[ $? == 2 && $(tail -n 1 "$work/said") == "draw: $in/nowhere/"'\n\x1b.svg could not be written' ]] || return 1
+  [[ $? == 2 && $(tail -n 1 "$work/said") == "draw: $in/nowhere/"'\n\x1b.svg: No such file or directory' ]] || return 1
   ./draw examples/gateway.sheet >/dev/full 2>"$work/said"
   [[ $? == 2 && $(<"$work/said") == 'draw: what dot is given could not be written' ]] || return 1
   ./draw examples/gateway.sheet >&- 2>"$work/said"

@@ -119,7 +119,7 @@ storing_never_writes_to_a_sheet() {
 # The table must not go into a verdict that has its descriptor; with many threads there is always one that is being written.
 storing_with_closed_descriptors_is_whole() {
   local program
-  for program in ./rejudge "${emulator[*]} target/sites/rejudge"; do
+  for program in ./rejudge "${emulator[*]} target/sites/zarpalume rejudge"; do
     rm -rf "$work/closed"
     cp -r "$work/many" "$work/closed"
     # shellcheck disable=SC2086
