@@ -4,6 +4,8 @@
 
 #include <zarpalume.h>
 
+#include <cstddef>
+#include <cstdint>
 #include <cstdlib>
 
 namespace {

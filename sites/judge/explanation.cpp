@@ -2,7 +2,6 @@
 
 #include "../common/drawing.hpp"
 #include "../common/text.hpp"
-#include "hints.hpp"
 #include "inspection.hpp"
 
 #include <algorithm>
@@ -82,12 +81,6 @@ Fault fault_of(const zarpalume::Refusal &refusal, const Inspection &inspection) 
     return {.refusal = refusal, .line = std::max<std::size_t>(refusal.line, 1), .message = "why is not known here"};
 }
 
-// Whether a label can stand in a sentence as it is.
-bool is_plain(std::string_view label) {
-    constexpr std::string_view plain = "ABCDEFGHIJKLMNOPQRSTUVWXYZabcdefghijklmnopqrstuvwxyz0123456789_-./+ ";
-    return label.find_first_not_of(plain) == std::string_view::npos && label.front() != ' ' && label.back() != ' ';
-}
-
 // The sentences on a sheet that isn't refused.
 class Sentences {
 public:
@@ -100,9 +93,9 @@ public:
     std::string reach() const;
 
 private:
-    std::string name(std::uint32_t id) const;
+    std::string name(std::uint32_t id) const { return drawing_.name(id); }
+    std::size_t position(std::uint32_t id) const { return drawing_.position(id).value(); }
     std::string action(std::uint32_t number) const;
-    std::size_t position(std::uint32_t id) const;
     std::uint32_t owner(std::uint32_t action) const { return drawing_.owners().at(action); }
     std::string lines(std::uint32_t box, const zarpalume::Place &place) const;
     std::string output(const zarpalume::Place &place) const;
@@ -114,20 +107,8 @@ private:
     const Tables &tables_;
 };
 
-// The label; with the id where the label doesn't tell which box it is.
-std::string Sentences::name(std::uint32_t id) const {
-    const std::string_view label = drawing_.boxes().at(position(id)).label;
-    const auto same = std::count_if(drawing_.boxes().begin(), drawing_.boxes().end(), [&](const Box &box) { return box.label == label; });
-    return (is_plain(label) ? std::string{label} : shown(label)) + (same > 1 ? " (" + to_string(id) + ")" : "");
-}
-
 std::string Sentences::action(std::uint32_t number) const {
     return "action " + to_string(number) + " of " + name(owner(number));
-}
-
-std::size_t Sentences::position(std::uint32_t id) const {
-    const auto found = std::find_if(drawing_.boxes().begin(), drawing_.boxes().end(), [id](const Box &box) { return box.id == id; });
-    return static_cast<std::size_t>(found - drawing_.boxes().begin());
 }
 
 // Where the classes of both states stand.
@@ -198,7 +179,7 @@ std::string_view kind(Drawn drawn) {
 std::string Sentences::needed() const {
     std::string result = verdict_.needed().empty() ? "no arrows are needed\n" : "needed arrows:\n";
     for (const zarpalume::Arrow &arrow : verdict_.needed()) {
-        result.append("  ").append(name(arrow.source)).append(" -> ").append(name(arrow.target)).append(": ").append(kind(drawing_.drawn(arrow))).append("\n");
+        result.append("  ").append(drawing_.name(arrow)).append(": ").append(kind(drawing_.drawn(arrow))).append("\n");
     }
     return result;
 }

@@ -32,16 +32,6 @@ bool begins_with_capital(std::string_view line) {
 
 } // namespace
 
-std::string shown(std::string_view field) {
-    constexpr std::size_t most = ZARPALUME_LABEL_BYTES;
-    std::string result;
-    for (const char each : field.substr(0, most)) {
-        // Byte by byte, since a sheet is ASCII: what isn't must be seen.
-        result += each == '"' ? "\\\"" : escaped({&each, 1});
-    }
-    return '"' + result + (field.size() > most ? "..." : "") + '"';
-}
-
 std::string line_hint(std::string_view line) {
     if (line.starts_with("\xEF\xBB\xBF")) {
         return "the file begins with a byte order mark; save it as ASCII, without one";

@@ -6,9 +6,6 @@
 
 namespace sites {
 
-// A field as it can stand in a message: quoted, escaped, and cut where it is long.
-std::string shown(std::string_view field);
-
 // What the line's bytes suggest; empty where they suggest nothing.
 std::string line_hint(std::string_view line);
 

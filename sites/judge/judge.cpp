@@ -1,6 +1,7 @@
 // judge: the verdicts on sheets, as the library writes them or in words.
 #include "../commands.hpp"
 #include "../common/text.hpp"
+#include "../common/verdict.hpp"
 #include "explanation.hpp"
 
 #include <algorithm>
@@ -43,7 +44,7 @@ int judge_one(const Source &source, bool explain, bool with_name) {
         return fail(source.name + ": " + source.sheet.problem);
     }
     const std::string_view sheet = source.sheet.bytes;
-    const zarpalume::Verdict verdict = zarpalume::judge(sheet);
+    const zarpalume::Verdict verdict = verdict_on(sheet);
     const std::string heading = with_name && !explain ? source.name + ":\n" : "";
     const std::string text = heading + (explain ? explained(source.name, sheet, verdict) : std::string{verdict.text()});
     std::fwrite(text.data(), 1, text.size(), stdout);

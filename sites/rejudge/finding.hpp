@@ -4,6 +4,7 @@
 #include "names.hpp"
 #include "store.hpp"
 
+#include <array>
 #include <cstddef>
 #include <cstdint>
 #include <optional>
@@ -25,6 +26,10 @@ struct Counts {
     std::size_t reach = 0;
 };
 
+// The table's columns, by the names of the header.
+inline constexpr std::array<std::string_view, 10> columns{"path", "outcome", "place", "needed", "undrawn", "lost", "reach", "stored", "change", "lost arrows"};
+using Row = std::array<std::string, columns.size()>;
+
 struct Finding {
     std::string path{};
     Outcome outcome = Outcome::unread;
@@ -32,13 +37,14 @@ struct Finding {
     std::optional<Counts> counts{};
     Stored stored = Stored::nothing;
     std::string change = "-";
+    // The needed arrows with no drawn path, by their boxes' names.
+    std::string lost_arrows = "-";
 };
 
 // Judges the sheet, if it is one, and compares the verdict with the stored one; stores it where there is a store.
 Finding find(const Name &name, const std::optional<Store> &store);
 
-// The table's line, with its end.
-std::string line(const Finding &finding);
+Row row(const Finding &finding);
 
 // 0 where all is well, 1 where somebody has to look, 2 where something could not be read or written.
 int status(const Finding &finding);

@@ -6,6 +6,7 @@
 #include "progress.hpp"
 #include "store.hpp"
 #include "summary.hpp"
+#include "table.hpp"
 #include "turns.hpp"
 #include "workers.hpp"
 
@@ -25,11 +26,13 @@ namespace sites {
 
 namespace {
 
-constexpr std::string_view help = R"(usage: rejudge [--store] [--threads N] [--quiet] [--null] [--] [FILE or FOLDER]...
+constexpr std::string_view help = R"(usage: rejudge [--store] [--header] [--only KIND] [--threads N] [--quiet] [--null] [--] [FILE or FOLDER]...
 Judges sheets again, and prints a line of a table for each. Without a file or folder their names are read from standard input.
 docs/SITES.md has the table's columns.
 
   --store      writes each verdict that is missing or has changed beside its sheet
+  --header     prints the columns' names first
+  --only KIND  prints only the lines of sheets that are changed, broken, refused or lost (an arrow is needed and has no drawn path)
   --threads N  judges so many at a time
   --quiet      prints no summary
   --null       names on standard input end with a zero byte and not with a newline
@@ -39,7 +42,7 @@ docs/SITES.md has the table's columns.
 Status 0: all as stored, accepted and drawn; 1: somebody has to look; 2: something could not be read or written.
 )";
 
-constexpr Option options[] = {{"--store"}, {"--threads", true}, {"--quiet"}, {"--null"}};
+constexpr Option options[] = {{"--store"}, {"--header"}, {"--only", true}, {"--threads", true}, {"--quiet"}, {"--null"}};
 
 std::size_t read_threads(const Options &given) {
     const auto word = given.value("--threads");
@@ -54,6 +57,28 @@ std::size_t read_threads(const Options &given) {
     return threads;
 }
 
+using Wanted = bool (*)(const Finding &finding);
+
+// Which lines to print.
+Wanted read_only(const Options &given) {
+    constexpr std::pair<std::string_view, Wanted> kinds[] = {
+        {"changed", [](const Finding &finding) { return finding.stored == Stored::changed; }},
+        {"broken", [](const Finding &finding) { return finding.outcome == Outcome::broken; }},
+        {"refused", [](const Finding &finding) { return finding.outcome == Outcome::refused; }},
+        {"lost", [](const Finding &finding) { return finding.counts && finding.counts->no_path > 0; }},
+    };
+    const auto word = given.value("--only");
+    if (!word) {
+        return [](const Finding &) { return true; };
+    }
+    for (const auto &[kind, wanted] : kinds) {
+        if (*word == kind) {
+            return wanted;
+        }
+    }
+    throw WrongWords{"--only wants changed, broken, refused or lost, and not " + escaped(*word)};
+}
+
 // Where the list can't be read to its end, its last name may be cut: none of it is taken.
 std::string add_list(Search &search, char name_end) {
     const Reading list = read_standard_input(std::string::npos);
@@ -66,7 +91,7 @@ std::string add_list(Search &search, char name_end) {
 }
 
 // Writes each line as soon as it and all before it are there.
-Summary judge_all(const std::vector<Name> &names, bool storing, std::size_t threads) {
+Summary judge_all(const std::vector<Name> &names, bool storing, std::size_t threads, const Table &table, Wanted wanted) {
     std::vector<Finding> findings(names.size());
     const auto store = storing ? std::optional<Store>{names} : std::nullopt;
     Workers workers{storing ? turns(names) : Turns(names.size()), threads, [&](std::size_t k) { findings[k] = find(names[k], store); }};
@@ -78,9 +103,10 @@ Summary judge_all(const std::vector<Name> &names, bool storing, std::size_t thre
             progress.show(workers.done());
         }
         const Finding finding = std::move(findings[k]);
-        progress.make_way();
-        const std::string text = line(finding);
-        std::fwrite(text.data(), 1, text.size(), stdout);
+        if (wanted(finding)) {
+            progress.make_way();
+            table.print(row(finding));
+        }
         progress.show(workers.done());
         summary.add(finding);
     }
@@ -89,6 +115,7 @@ Summary judge_all(const std::vector<Name> &names, bool storing, std::size_t thre
 
 int rejudge(const Options &given) {
     const std::size_t threads = read_threads(given);
+    const Wanted wanted = read_only(given);
     if (given.names().empty() && input_is_terminal()) {
         throw WrongWords{"a file or folder is missing"};
     }
@@ -102,7 +129,12 @@ int rejudge(const Options &given) {
             return 2;
         }
     }
-    const Summary summary = judge_all(search.found(), given.has("--store"), threads);
+    const std::vector<Name> names = search.found();
+    const Table table{names};
+    if (given.has("--header")) {
+        table.print_header();
+    }
+    const Summary summary = judge_all(names, given.has("--store"), threads, table, wanted);
     if (!end_output()) {
         std::fputs("rejudge: the table could not be written\n", stderr);
         return 2;
