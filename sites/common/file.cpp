@@ -31,7 +31,10 @@ Descriptor::Descriptor(Descriptor &&other) noexcept : number_{std::exchange(othe
 
 Descriptor::~Descriptor() {
     if (open()) {
+        // What went wrong before is told after it.
+        const int kept = errno;
         ::close(number_);
+        errno = kept;
     }
 }
 

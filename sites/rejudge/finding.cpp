@@ -16,8 +16,9 @@ namespace sites {
 namespace {
 
 // By the enums' order.
-constexpr std::array<std::string_view, 5> outcome_words{"accepted", "broken", "refused", "unread", "skipped"};
-constexpr std::array<std::string_view, 7> stored_words{"-", "same", "changed", "none", "new", "unread", "unwritten"};
+constexpr std::array<std::string_view, outcome_count> outcome_words{"accepted", "broken", "refused", "unread", "skipped"};
+constexpr std::array<std::string_view, stored_count> stored_words{"-", "same", "changed", "none", "new", "unread", "unwritten"};
+static_assert(!outcome_words.back().empty() && !stored_words.back().empty(), "a word for each");
 
 template <typename Enum, std::size_t count>
 constexpr std::string_view word_of(Enum value, const std::array<std::string_view, count> &words) {

@@ -14,9 +14,11 @@
 namespace sites {
 
 enum class Outcome : std::uint8_t { accepted, broken, refused, unread, skipped };
+inline constexpr std::size_t outcome_count = static_cast<std::size_t>(Outcome::skipped) + 1;
 
 // The stored verdict: same as now, changed, none there, new (none was there, and now one is), or not to be read or written.
 enum class Stored : std::uint8_t { nothing, same, changed, none, written, unread, unwritten };
+inline constexpr std::size_t stored_count = static_cast<std::size_t>(Stored::unwritten) + 1;
 
 // The needed arrows laid beside the drawing, and the reach.
 struct Counts {

@@ -54,6 +54,13 @@ bool keep_access(int stored, int file) {
     return ::fchmod(file, about.st_mode & mode_bits) == 0;
 }
 
+// A rename lasts when its folder is on the disk; some file systems have no such thing, and say EINVAL.
+bool sync_folder(const std::string &file) {
+    const std::size_t slash = file.rfind('/');
+    const Descriptor folder{slash == std::string::npos ? "." : file.substr(0, slash + 1), O_RDONLY | O_DIRECTORY};
+    return folder.open() && (::fsync(folder.number()) == 0 || errno == EINVAL);
+}
+
 } // namespace
 
 std::string verdict_name(const std::string &sheet) {
@@ -84,7 +91,7 @@ std::string Store::replace(const std::string &name, std::string_view bytes) cons
     }
     if (write_all(file->number(), bytes) && ::fsync(file->number()) == 0 && (first || keep_access(stored.number(), file->number())) &&
         std::rename(temporary.c_str(), name.c_str()) == 0) {
-        return {};
+        return sync_folder(name) ? "" : "its folder: " + last_problem();
     }
     problem = last_problem();
     ::unlink(temporary.c_str());

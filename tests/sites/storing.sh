@@ -153,6 +153,16 @@ storing_tells_each_fault() {
   done
 }
 
+# The new verdict is there by then, and may be gone when the power goes.
+storing_tells_that_the_folder_is_not_on_the_disk() {
+  local in
+  in=$(room folder-fault)
+  cp examples/gateway.sheet "$in"
+  SITES_CALL='fsync of a folder' with_faults rejudge --quiet --store "$in" >"$work/table"
+  [[ $? == 2 && $(ls "$in") == $'gateway.sheet\ngateway.verdict' ]] && cmp "$in/gateway.verdict" examples/gateway.verdict &&
+    diff "$work/table" <(row "$in/gateway.sheet" "${good[@]}" unwritten 'its folder: Input/output error')
+}
+
 # Only root can give files to others.
 storing_keeps_mode_and_owner() {
   local in mode
