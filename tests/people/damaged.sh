@@ -1,4 +1,4 @@
-# shellcheck shell=bash
+# shellcheck shell=bash disable=SC2034
 # Sheets as people spoil them, each from the gateway's: a name, and what makes it.
 
 gateway=examples/gateway.sheet
