@@ -5,6 +5,9 @@
 #include <stddef.h>
 #include <stdint.h>
 
+// The one place for the number: CMake, pkg-config and the commands take it from here.
+#define ZARPALUME_VERSION "0.1.0"
+
 // The limits. Three of a model, from which its tables' lengths follow; then those of texts, runs and numbers.
 #define ZARPALUME_STATES 128
 #define ZARPALUME_ACTIONS 32

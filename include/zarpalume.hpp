@@ -2,6 +2,10 @@
 #ifndef ZARPALUME_HPP
 #define ZARPALUME_HPP
 
+#if __cplusplus < 202002L && (!defined(_MSVC_LANG) || _MSVC_LANG < 202002L)
+#error "zarpalume.hpp needs C++20; with g++ and clang++ it is -std=c++20"
+#else
+
 #include "zarpalume.h"
 
 #include <algorithm>
@@ -16,6 +20,7 @@
 #include <string_view>
 #include <system_error>
 #include <type_traits>
+#include <utility>
 
 namespace zarpalume {
 
@@ -23,7 +28,8 @@ inline constexpr std::size_t most_boxes = ZARPALUME_BOXES;
 inline constexpr std::size_t most_arrows = ZARPALUME_PAIRS;
 inline constexpr std::size_t most_edits = ZARPALUME_EDITS;
 
-enum class Outcome : std::uint8_t { accepted, broken, refused };
+// Mismatched: the library has given no verdict, since this header is that of another one. The sheet isn't at fault.
+enum class Outcome : std::uint8_t { accepted, broken, refused, mismatched };
 
 enum class Condition : std::uint8_t { output, respect, step };
 
@@ -122,6 +128,13 @@ inline std::uint32_t take_number(std::string_view &line) noexcept {
     return number(take(line, '\t')).value_or(0);
 }
 
+template <typename Type>
+inline constexpr bool is_byte = std::is_same_v<Type, char> || std::is_same_v<Type, unsigned char> || std::is_same_v<Type, char8_t> || std::is_same_v<Type, std::byte>;
+
+// What a vector, a span or the like has its bytes in.
+template <typename Bytes>
+using Element = std::remove_cvref_t<decltype(*std::data(std::declval<const Bytes &>()))>;
+
 // A number's decimal digits.
 class Digits {
 public:
@@ -154,27 +167,27 @@ Out put_line(Out out, std::string_view word, std::initializer_list<std::string_v
 // Everything that the verdict's text says, and the text. Spans and views into it live as long as it does.
 class Verdict {
 public:
-    Outcome outcome() const noexcept { return outcome_; }
-    bool accepted() const noexcept { return outcome_ == Outcome::accepted; }
+    [[nodiscard]] Outcome outcome() const noexcept { return outcome_; }
+    [[nodiscard]] bool accepted() const noexcept { return outcome_ == Outcome::accepted; }
 
     // Where the views are first broken, if they are.
-    std::optional<Place> broken() const noexcept {
+    [[nodiscard]] std::optional<Place> broken() const noexcept {
         return outcome_ == Outcome::broken ? std::optional{place_} : std::nullopt;
     }
 
     // Why the sheet is refused, if it is; nothing below has content then.
-    std::optional<Refusal> refused() const noexcept {
+    [[nodiscard]] std::optional<Refusal> refused() const noexcept {
         return outcome_ == Outcome::refused ? std::optional{refusal_} : std::nullopt;
     }
 
     // By the boxes' order on the sheet, source first.
-    std::span<const Arrow> needed() const & noexcept { return needed_.items(); }
+    [[nodiscard]] std::span<const Arrow> needed() const & noexcept { return needed_.items(); }
     // One for each box, in the boxes' order.
-    std::span<const Depth> depths() const & noexcept { return depths_.items(); }
+    [[nodiscard]] std::span<const Depth> depths() const & noexcept { return depths_.items(); }
     // How many states some run from the start reaches.
-    std::uint32_t reach() const noexcept { return reach_; }
+    [[nodiscard]] std::uint32_t reach() const noexcept { return reach_; }
 
-    std::string_view text() const & noexcept {
+    [[nodiscard]] std::string_view text() const & noexcept {
         return {reinterpret_cast<const char *>(buffer_.data()), length_};
     }
 
@@ -202,6 +215,7 @@ private:
         if (word == "views") {
             read_views(line);
         } else if (word == "refused") {
+            outcome_ = Outcome::refused;
             refusal_ = {detail::take_number(line), detail::take_number(line)};
         } else if (word == "need") {
             needed_.add({detail::take_number(line), detail::take_number(line)});
@@ -226,8 +240,8 @@ private:
         place_.t = detail::number(detail::take(line, '\t'));
     }
 
-    // Refused until a line says otherwise: nothing is ever accepted for want of a line.
-    Outcome outcome_ = Outcome::refused;
+    // Until a line says otherwise: nothing is ever accepted for want of a line.
+    Outcome outcome_ = Outcome::mismatched;
     Place place_{};
     Refusal refusal_{};
     List<Arrow, most_arrows> needed_{};
@@ -238,16 +252,27 @@ private:
 };
 
 // Judges a sheet; never fails. It takes ZARPALUME_STACK_BYTES of stack and the verdict's own size.
-inline Verdict judge(std::span<const std::uint8_t> sheet) noexcept {
+[[nodiscard]] inline Verdict judge(std::span<const std::uint8_t> sheet) noexcept {
     return Verdict{sheet};
 }
 
-inline Verdict judge(std::span<const std::byte> sheet) noexcept {
-    return judge(std::span{reinterpret_cast<const std::uint8_t *>(sheet.data()), sheet.size()});
+// Vectors, spans, strings and arrays of bytes or characters. A plain array of characters is a text that ends with a zero, as below.
+template <typename Bytes>
+    requires(!std::is_array_v<Bytes> && detail::is_byte<detail::Element<Bytes>>)
+[[nodiscard]] Verdict judge(const Bytes &sheet) noexcept {
+    return judge(std::span<const std::uint8_t>{reinterpret_cast<const std::uint8_t *>(std::data(sheet)), std::size(sheet)});
 }
 
-inline Verdict judge(std::string_view sheet) noexcept {
-    return judge(std::span{reinterpret_cast<const std::uint8_t *>(sheet.data()), sheet.size()});
+[[nodiscard]] inline Verdict judge(std::span<const std::byte> sheet) noexcept {
+    return judge<std::span<const std::byte>>(sheet);
+}
+
+[[nodiscard]] inline Verdict judge(std::string_view sheet) noexcept {
+    return judge<std::string_view>(sheet);
+}
+
+[[nodiscard]] inline Verdict judge(std::u8string_view sheet) noexcept {
+    return judge<std::u8string_view>(sheet);
 }
 
 // What became of an edit: done, or the number of the refusal, which changed nothing.
@@ -375,5 +400,7 @@ private:
 static_assert(sizeof(std::array<zarpalume_edit, ZARPALUME_EDITS>) == sizeof(std::array<std::uint32_t, ZARPALUME_EDIT_WORDS>));
 
 } // namespace zarpalume
+
+#endif
 
 #endif

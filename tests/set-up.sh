@@ -26,10 +26,20 @@ make_archive() {
   tools/fresh "$archive" rt staticlib zarpalume >"$folder/staticlib.log" 2>&1 || { cat "$folder/staticlib.log"; return 1; }
 }
 
+# The oldest rustc that knows what the tests' Rust uses; a distribution may have one that is older.
+oldest_rustc=1.82.0
+
+rustc_is_new() {
+  local version
+  version=$(rustc --version | cut -d ' ' -f 2)
+  [[ $(printf '%s\n' "$oldest_rustc" "$version" | sort -V | head -n 1) == "$oldest_rustc" ]] ||
+    { echo "rustc $version is too old; the tests need $oldest_rustc, which rustup brings"; return 1; }
+}
+
 # make_rust NAME SOURCE...: a Rust program of the tests, from the first of its sources; one test at a time makes it.
 make_rust() {
   local made=$folder/$1 source
-  want rustc rustc || return 1
+  want rustc rustc && rustc_is_new || return 1
   (
     flock 9
     for source in "${@:2}"; do

@@ -29,6 +29,12 @@ std::uint32_t number(std::string_view field) noexcept {
     return value;
 }
 
+// Whether a label can't be taken for a sentence.
+bool is_plain(std::string_view label) noexcept {
+    constexpr std::string_view plain = "ABCDEFGHIJKLMNOPQRSTUVWXYZabcdefghijklmnopqrstuvwxyz0123456789_-./+ ";
+    return label.find_first_not_of(plain) == std::string_view::npos && !label.starts_with(' ') && !label.ends_with(' ');
+}
+
 } // namespace
 
 Drawing::Drawing(std::string_view sheet) {
@@ -97,6 +103,13 @@ std::optional<std::size_t> Drawing::position(std::uint32_t id) const noexcept {
         return std::nullopt;
     }
     return static_cast<std::size_t>(found - boxes_.begin());
+}
+
+std::string Drawing::name(std::uint32_t id) const {
+    const auto at = position(id);
+    const std::string_view label = at ? boxes_[*at].label : "";
+    const auto same = std::count_if(boxes_.begin(), boxes_.end(), [&](const Box &box) { return box.label == label; });
+    return (is_plain(label) ? std::string{label} : shown(label)) + (same == 1 ? "" : " (" + std::to_string(id) + ")");
 }
 
 } // namespace sites

@@ -8,6 +8,7 @@
 #include <cstddef>
 #include <cstdint>
 #include <optional>
+#include <string>
 #include <string_view>
 #include <vector>
 
@@ -31,6 +32,12 @@ public:
     // The id of each action's box.
     const std::vector<std::uint32_t> &owners() const noexcept { return owners_; }
     Drawn drawn(const zarpalume::Arrow &arrow) const noexcept;
+    // Where a box of this id stands among the boxes.
+    std::optional<std::size_t> position(std::uint32_t id) const noexcept;
+    // The box's label as it can stand in a sentence; with the id where the label doesn't tell which box it is.
+    std::string name(std::uint32_t id) const;
+    // Its boxes' names, with an arrow between them.
+    std::string name(const zarpalume::Arrow &arrow) const { return name(arrow.source) + " -> " + name(arrow.target); }
 
 private:
     using Flags = std::array<std::bitset<zarpalume::most_boxes>, zarpalume::most_boxes>;
@@ -38,7 +45,6 @@ private:
     void read(std::string_view line);
     void draw(std::uint32_t source, std::uint32_t target) noexcept;
     void follow_arrows() noexcept;
-    std::optional<std::size_t> position(std::uint32_t id) const noexcept;
 
     std::vector<Box> boxes_;
     std::vector<std::uint32_t> owners_;

@@ -31,7 +31,10 @@ Descriptor::Descriptor(Descriptor &&other) noexcept : number_{std::exchange(othe
 
 Descriptor::~Descriptor() {
     if (open()) {
+        // What went wrong before is told after it.
+        const int kept = errno;
         ::close(number_);
+        errno = kept;
     }
 }
 
@@ -63,6 +66,11 @@ Reading read_file(const std::string &name, std::size_t most) {
     return read_open(file.number(), most);
 }
 
+bool is_pipe(const std::string &name) noexcept {
+    struct stat about {};
+    return ::stat(name.c_str(), &about) == 0 && !S_ISREG(about.st_mode) && !S_ISDIR(about.st_mode);
+}
+
 Reading read_open(int file, std::size_t most) {
     std::string bytes;
     while (bytes.size() < most) {
@@ -78,6 +86,17 @@ Reading read_open(int file, std::size_t most) {
         }
     }
     return {std::move(bytes)};
+}
+
+bool write_all(int file, std::string_view bytes) {
+    while (!bytes.empty()) {
+        const ssize_t count = ::write(file, bytes.data(), bytes.size());
+        if (count < 0 && errno != EINTR) {
+            return false;
+        }
+        bytes.remove_prefix(static_cast<std::size_t>(count < 0 ? 0 : count));
+    }
+    return true;
 }
 
 std::string last_problem() {

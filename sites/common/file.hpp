@@ -5,6 +5,7 @@
 #include <cstddef>
 #include <optional>
 #include <string>
+#include <string_view>
 #include <sys/stat.h>
 #include <zarpalume.h>
 
@@ -18,6 +19,8 @@ class Descriptor {
 public:
     // The mode is that of a file which is made.
     Descriptor(const std::string &name, int flags, mode_t mode = 0);
+    // One that is open already.
+    explicit Descriptor(int number) noexcept : number_{number} {}
     Descriptor(Descriptor &&other) noexcept;
     Descriptor &operator=(Descriptor &&) = delete;
     ~Descriptor();
@@ -51,8 +54,13 @@ struct Reading {
 // The first bytes of a file, at most so many. A link that leads nowhere isn't missing.
 Reading read_file(const std::string &name, std::size_t most);
 
+// Whether there is a pipe, a device or a socket of this name.
+bool is_pipe(const std::string &name) noexcept;
+
 // What is left of an open file, at most so many bytes.
 Reading read_open(int file, std::size_t most);
+
+bool write_all(int file, std::string_view bytes);
 
 // What errno says, in words.
 std::string last_problem();

@@ -1,5 +1,7 @@
 #include "text.hpp"
 
+#include <zarpalume.h>
+
 #include <array>
 
 namespace sites {
@@ -77,6 +79,16 @@ std::string escaped(std::string_view text) {
         text.remove_prefix(std::max<std::size_t>(plain, 1));
     }
     return result;
+}
+
+std::string shown(std::string_view text) {
+    constexpr std::size_t most = ZARPALUME_LABEL_BYTES;
+    std::string result;
+    for (const char each : text.substr(0, most)) {
+        // Byte by byte, since a sheet is ASCII: what isn't must be seen.
+        result += each == '"' ? "\\\"" : escaped({&each, 1});
+    }
+    return '"' + result + (text.size() > most ? "..." : "") + '"';
 }
 
 } // namespace sites

@@ -19,4 +19,7 @@ inline std::string_view take_line(std::string_view &text, char line_end = '\n') 
 // On one line and in one field: tabs, newlines and backslashes as \t, \n and \\, other controls and what isn't UTF-8 as \xHH for each byte.
 std::string escaped(std::string_view text);
 
+// Part of a sheet as it can stand in a message: quoted, what isn't printable ASCII escaped, and cut where it is longer than a label.
+std::string shown(std::string_view text);
+
 } // namespace sites

@@ -48,12 +48,13 @@ std::string node_line(const Box &box, const std::optional<zarpalume::Place> &bro
         rows += row("11", red, bold(std::string{word(broken->condition)} + " broken")) +
                 row("11", red, "action " + to_string(broken->action) + ", " + states(*broken));
     }
-    return "  b" + to_string(box.id) + " [" + label(rows) + std::string{marked ? broken_look : ""} + "]\n";
+    return "  b" + to_string(box.id) + " [" + label(rows) + tooltip(std::string{box.label} + ", id " + to_string(box.id)) +
+           std::string{marked ? broken_look : ""} + "]\n";
 }
 
-std::string arrow_line(const zarpalume::Arrow &arrow, const Kind &kind) {
+std::string arrow_line(const Drawing &drawing, const zarpalume::Arrow &arrow, const Kind &kind) {
     return "  b" + to_string(arrow.source) + " -> b" + to_string(arrow.target) + " [class=" + quoted(kind.name) + ", color=" + quoted(kind.colour) +
-           ", style=" + quoted(kind.style) + ", penwidth=" + quoted(kind.width) + "]\n";
+           ", style=" + quoted(kind.style) + ", penwidth=" + quoted(kind.width) + tooltip(drawing.name(arrow) + ": " + std::string{kind.meaning}) + "]\n";
 }
 
 const Kind &kind(Drawn drawn) {
@@ -68,21 +69,34 @@ const Kind &kind(Drawn drawn) {
     return needed_lost;
 }
 
-std::string arrow_lines(const Drawing &drawing, const zarpalume::Verdict &verdict) {
+std::string arrow_lines(const Drawing &drawing, const zarpalume::Verdict &verdict, Shown shown) {
     std::string result;
+    if (shown == Shown::lost) {
+        for (const zarpalume::Arrow &arrow : verdict.needed()) {
+            result += drawing.drawn(arrow) == Drawn::nothing ? arrow_line(drawing, arrow, needed_lost) : "";
+        }
+        return result;
+    }
     const auto needed = verdict.needed();
     for (const Box &source : drawing.boxes()) {
         for (const Box &target : drawing.boxes()) {
             const zarpalume::Arrow arrow{source.id, target.id};
             const Drawn drawn = drawing.drawn(arrow);
             if (std::find(needed.begin(), needed.end(), arrow) != needed.end()) {
-                result += arrow_line(arrow, kind(drawn));
+                result += arrow_line(drawing, arrow, kind(drawn));
             } else if (drawn == Drawn::arrow && source.id != target.id) {
-                result += arrow_line(arrow, drawn_only);
+                result += arrow_line(drawing, arrow, drawn_only);
             }
         }
     }
     return result;
+}
+
+bool has_lost_arrow(const Drawing &drawing, const zarpalume::Verdict &verdict, std::uint32_t box) {
+    const auto needed = verdict.needed();
+    return std::any_of(needed.begin(), needed.end(), [&](const zarpalume::Arrow &arrow) {
+        return (arrow.source == box || arrow.target == box) && drawing.drawn(arrow) == Drawn::nothing;
+    });
 }
 
 // A cell with a line through its middle, as an arrow of this kind has it, and a cell with its meaning.
@@ -136,16 +150,19 @@ std::string caption(std::string_view title, std::string_view rows) {
 
 } // namespace
 
-std::string dot(std::string_view title, std::string_view sheet, const zarpalume::Verdict &verdict) {
+std::string dot(std::string_view title, std::string_view sheet, const zarpalume::Verdict &verdict, Shown shown) {
     if (const auto refusal = verdict.refused()) {
         return std::string{head} + caption(title, "") + refused_node(*refusal, sheet) + "}\n";
     }
     const Drawing drawing{sheet};
-    std::string result = std::string{head} + caption(title, views_rows(drawing, verdict) + legend());
+    const std::string note = shown == Shown::lost ? row("12", grey, "only needed arrows with no drawn path are shown") : "";
+    std::string result = std::string{head} + caption(title, views_rows(drawing, verdict) + note + legend());
     for (const Box &box : drawing.boxes()) {
-        result += node_line(box, verdict.broken());
+        if (shown == Shown::everything || has_lost_arrow(drawing, verdict, box.id)) {
+            result += node_line(box, verdict.broken());
+        }
     }
-    return result + arrow_lines(drawing, verdict) + "}\n";
+    return result + arrow_lines(drawing, verdict, shown) + "}\n";
 }
 
 } // namespace sites

@@ -58,4 +58,13 @@ std::string label(std::string_view rows) {
     return "label=<" + table(rows) + ">";
 }
 
+std::string tooltip(std::string_view text) {
+    std::string doubled;
+    for (const char each : text) {
+        // dot expands a tooltip once more than a label.
+        doubled.append(each == '\\' ? 2 : 1, each);
+    }
+    return ", tooltip=" + quoted(marked_up(doubled));
+}
+
 } // namespace sites

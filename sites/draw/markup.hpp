@@ -22,4 +22,7 @@ std::string table(std::string_view rows);
 // The label of a box or of the whole graph.
 std::string label(std::string_view rows);
 
+// What is shown where the pointer rests, as one attribute more.
+std::string tooltip(std::string_view text);
+
 } // namespace sites

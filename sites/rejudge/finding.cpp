@@ -3,6 +3,7 @@
 #include "../common/drawing.hpp"
 #include "../common/file.hpp"
 #include "../common/text.hpp"
+#include "../common/verdict.hpp"
 #include "change.hpp"
 
 #include <zarpalume.hpp>
@@ -15,8 +16,9 @@ namespace sites {
 namespace {
 
 // By the enums' order.
-constexpr std::array<std::string_view, 5> outcome_words{"accepted", "broken", "refused", "unread", "skipped"};
-constexpr std::array<std::string_view, 7> stored_words{"-", "same", "changed", "none", "new", "unread", "unwritten"};
+constexpr std::array<std::string_view, outcome_count> outcome_words{"accepted", "broken", "refused", "unread", "skipped"};
+constexpr std::array<std::string_view, stored_count> stored_words{"-", "same", "changed", "none", "new", "unread", "unwritten"};
+static_assert(!outcome_words.back().empty() && !stored_words.back().empty(), "a word for each");
 
 template <typename Enum, std::size_t count>
 constexpr std::string_view word_of(Enum value, const std::array<std::string_view, count> &words) {
@@ -34,14 +36,20 @@ std::string joined(std::initializer_list<std::string_view> parts, char between) 
     return result;
 }
 
-Counts counts(const zarpalume::Verdict &verdict, const Drawing &drawing) {
-    Counts result{.needed = verdict.needed().size(), .reach = verdict.reach()};
+// Lays the needed arrows beside the drawing.
+void describe_arrows(Finding &finding, const zarpalume::Verdict &verdict, const Drawing &drawing) {
+    Counts counts{.needed = verdict.needed().size(), .reach = verdict.reach()};
+    std::string lost;
     for (const zarpalume::Arrow &arrow : verdict.needed()) {
         const Drawn drawn = drawing.drawn(arrow);
-        result.not_drawn += drawn != Drawn::arrow;
-        result.no_path += drawn == Drawn::nothing;
+        counts.not_drawn += drawn != Drawn::arrow;
+        counts.no_path += drawn == Drawn::nothing;
+        if (drawn == Drawn::nothing) {
+            lost.append(lost.empty() ? "" : ", ").append(drawing.name(arrow));
+        }
     }
-    return result;
+    finding.counts = counts;
+    finding.lost_arrows = lost.empty() ? "-" : lost;
 }
 
 void describe(Finding &finding, const zarpalume::Verdict &verdict, std::string_view sheet) {
@@ -57,7 +65,7 @@ void describe(Finding &finding, const zarpalume::Verdict &verdict, std::string_v
         finding.place = joined({word(place->condition), to_string(place->box), to_string(place->action), to_string(place->s),
                                 place->t ? to_string(*place->t) : "-"}, ' ');
     }
-    finding.counts = counts(verdict, Drawing{sheet});
+    describe_arrows(finding, verdict, Drawing{sheet});
 }
 
 void compare(Finding &finding, std::string_view verdict, const std::optional<Store> &store) {
@@ -89,14 +97,6 @@ void compare(Finding &finding, std::string_view verdict, const std::optional<Sto
     }
 }
 
-std::string fields(const std::optional<Counts> &counts) {
-    if (!counts) {
-        return "-\t-\t-\t-";
-    }
-    using std::to_string;
-    return joined({to_string(counts->needed), to_string(counts->not_drawn), to_string(counts->no_path), to_string(counts->reach)}, '\t');
-}
-
 } // namespace
 
 Finding find(const Name &name, const std::optional<Store> &store) {
@@ -108,15 +108,24 @@ Finding find(const Name &name, const std::optional<Store> &store) {
         return {.path = name.path, .place = sheet.problem};
     }
     Finding finding{.path = name.path};
-    const zarpalume::Verdict verdict = zarpalume::judge(std::string_view{sheet.bytes});
+    const zarpalume::Verdict verdict = verdict_on(sheet.bytes);
     describe(finding, verdict, sheet.bytes);
     compare(finding, verdict.text(), store);
     return finding;
 }
 
-std::string line(const Finding &finding) {
-    return joined({escaped(finding.path), word_of(finding.outcome, outcome_words), finding.place, fields(finding.counts),
-                   word_of(finding.stored, stored_words), finding.change}, '\t') + '\n';
+Row row(const Finding &finding) {
+    const auto counted = [&](std::size_t Counts::*count) { return finding.counts ? std::to_string((*finding.counts).*count) : "-"; };
+    return {escaped(finding.path),
+            std::string{word_of(finding.outcome, outcome_words)},
+            finding.place,
+            counted(&Counts::needed),
+            counted(&Counts::not_drawn),
+            counted(&Counts::no_path),
+            counted(&Counts::reach),
+            std::string{word_of(finding.stored, stored_words)},
+            finding.change,
+            finding.lost_arrows};
 }
 
 int status(const Finding &finding) {

@@ -4,6 +4,7 @@
 #include "names.hpp"
 #include "store.hpp"
 
+#include <array>
 #include <cstddef>
 #include <cstdint>
 #include <optional>
@@ -13,9 +14,11 @@
 namespace sites {
 
 enum class Outcome : std::uint8_t { accepted, broken, refused, unread, skipped };
+inline constexpr std::size_t outcome_count = static_cast<std::size_t>(Outcome::skipped) + 1;
 
 // The stored verdict: same as now, changed, none there, new (none was there, and now one is), or not to be read or written.
 enum class Stored : std::uint8_t { nothing, same, changed, none, written, unread, unwritten };
+inline constexpr std::size_t stored_count = static_cast<std::size_t>(Stored::unwritten) + 1;
 
 // The needed arrows laid beside the drawing, and the reach.
 struct Counts {
@@ -25,6 +28,10 @@ struct Counts {
     std::size_t reach = 0;
 };
 
+// The table's columns, by the names of the header.
+inline constexpr std::array<std::string_view, 10> columns{"path", "outcome", "place", "needed", "undrawn", "lost", "reach", "stored", "change", "lost arrows"};
+using Row = std::array<std::string, columns.size()>;
+
 struct Finding {
     std::string path{};
     Outcome outcome = Outcome::unread;
@@ -32,13 +39,14 @@ struct Finding {
     std::optional<Counts> counts{};
     Stored stored = Stored::nothing;
     std::string change = "-";
+    // The needed arrows with no drawn path, by their boxes' names.
+    std::string lost_arrows = "-";
 };
 
 // Judges the sheet, if it is one, and compares the verdict with the stored one; stores it where there is a store.
 Finding find(const Name &name, const std::optional<Store> &store);
 
-// The table's line, with its end.
-std::string line(const Finding &finding);
+Row row(const Finding &finding);
 
 // 0 where all is well, 1 where somebody has to look, 2 where something could not be read or written.
 int status(const Finding &finding);

@@ -1,12 +1,12 @@
 // rejudge: judges every sheet that it is given again, and says what is needed, what was drawn, and what changed.
-#include "../common/file.hpp"
-#include "../common/program.hpp"
+#include "../commands.hpp"
 #include "../common/text.hpp"
 #include "finding.hpp"
 #include "names.hpp"
 #include "progress.hpp"
 #include "store.hpp"
 #include "summary.hpp"
+#include "table.hpp"
 #include "turns.hpp"
 #include "workers.hpp"
 
@@ -22,52 +22,68 @@
 #include <utility>
 #include <vector>
 
+namespace sites {
+
 namespace {
 
-constexpr const char *usage = "usage: rejudge [--store] [--threads N] [--quiet] [--null] [--] [FILE or FOLDER]...\n"
-                              "Without a file or folder their names are read from standard input, one on a line; with --null they end with a zero byte.\n";
+constexpr std::string_view help = R"(usage: rejudge [--store] [--header] [--only KIND] [--threads N] [--quiet] [--null] [--] [FILE or FOLDER]...
+Judges sheets again, and prints a line of a table for each. Without a file or folder their names are read from standard input.
+docs/SITES.md has the table's columns.
 
-struct Options {
-    bool store = false;
-    bool quiet = false;
-    char name_end = '\n';
-    std::size_t threads = std::max(std::thread::hardware_concurrency(), 1U);
-    std::vector<std::string> names{};
-};
+  --store      writes each verdict that is missing or has changed beside its sheet
+  --header     prints the columns' names first
+  --only KIND  prints only the lines of sheets that are changed, broken, refused or lost (an arrow is needed and has no drawn path)
+  --threads N  judges so many at a time
+  --quiet      prints no summary
+  --null       names on standard input end with a zero byte and not with a newline
+  --help       prints this
+  --version    prints the version
 
-bool read_threads(std::string_view word, std::size_t &threads) {
-    const auto [stop, error] = std::from_chars(word.data(), word.data() + word.size(), threads);
-    return error == std::errc{} && stop == word.data() + word.size() && threads > 0;
+Status 0: all as stored, accepted and drawn; 1: somebody has to look; 2: something could not be read or written.
+)";
+
+constexpr Option options[] = {{"--store"}, {"--header"}, {"--only", true}, {"--threads", true}, {"--quiet"}, {"--null"}};
+
+std::size_t read_threads(const Options &given) {
+    const auto word = given.value("--threads");
+    if (!word) {
+        return std::max(std::thread::hardware_concurrency(), 1U);
+    }
+    std::size_t threads = 0;
+    const auto [stop, error] = std::from_chars(word->data(), word->data() + word->size(), threads);
+    if (error != std::errc{} || stop != word->data() + word->size() || threads == 0) {
+        throw WrongWords{"--threads wants a number from 1 on, and not " + escaped(*word)};
+    }
+    return threads;
 }
 
-// Nothing where the words are wrong.
-std::optional<Options> read_options(const std::vector<std::string> &words) {
-    Options options;
-    bool names_only = false;
-    for (std::size_t k = 0; k < words.size(); k++) {
-        const std::string &word = words[k];
-        if (names_only || !word.starts_with("--")) {
-            options.names.push_back(word);
-        } else if (word == "--") {
-            names_only = true;
-        } else if (word == "--store") {
-            options.store = true;
-        } else if (word == "--quiet") {
-            options.quiet = true;
-        } else if (word == "--null") {
-            options.name_end = '\0';
-        } else if (word != "--threads" || ++k == words.size() || !read_threads(words[k], options.threads)) {
-            return std::nullopt;
+using Wanted = bool (*)(const Finding &finding);
+
+// Which lines to print.
+Wanted read_only(const Options &given) {
+    constexpr std::pair<std::string_view, Wanted> kinds[] = {
+        {"changed", [](const Finding &finding) { return finding.stored == Stored::changed; }},
+        {"broken", [](const Finding &finding) { return finding.outcome == Outcome::broken; }},
+        {"refused", [](const Finding &finding) { return finding.outcome == Outcome::refused; }},
+        {"lost", [](const Finding &finding) { return finding.counts && finding.counts->no_path > 0; }},
+    };
+    const auto word = given.value("--only");
+    if (!word) {
+        return [](const Finding &) { return true; };
+    }
+    for (const auto &[kind, wanted] : kinds) {
+        if (*word == kind) {
+            return wanted;
         }
     }
-    return options;
+    throw WrongWords{"--only wants changed, broken, refused or lost, and not " + escaped(*word)};
 }
 
 // Where the list can't be read to its end, its last name may be cut: none of it is taken.
-std::string add_list(sites::Search &search, char name_end) {
-    const sites::Reading list = sites::read_open(STDIN_FILENO, std::string::npos);
+std::string add_list(Search &search, char name_end) {
+    const Reading list = read_standard_input(std::string::npos);
     for (std::string_view rest = list.bytes; !rest.empty();) {
-        if (const std::string_view name = sites::take_line(rest, name_end); !name.empty()) {
+        if (const std::string_view name = take_line(rest, name_end); !name.empty()) {
             search.add(std::string{name});
         }
     }
@@ -75,50 +91,55 @@ std::string add_list(sites::Search &search, char name_end) {
 }
 
 // Writes each line as soon as it and all before it are there.
-sites::Summary judge_all(const std::vector<sites::Name> &names, const Options &options) {
-    std::vector<sites::Finding> findings(names.size());
-    const auto store = options.store ? std::optional<sites::Store>{names} : std::nullopt;
-    sites::Workers workers{options.store ? sites::turns(names) : sites::Turns(names.size()), options.threads,
-                           [&](std::size_t k) { findings[k] = sites::find(names[k], store); }};
-    sites::Progress progress{names.size()};
-    sites::Summary summary;
+Summary judge_all(const std::vector<Name> &names, bool storing, std::size_t threads, const Table &table, Wanted wanted) {
+    std::vector<Finding> findings(names.size());
+    const auto store = storing ? std::optional<Store>{names} : std::nullopt;
+    Workers workers{storing ? turns(names) : Turns(names.size()), threads, [&](std::size_t k) { findings[k] = find(names[k], store); }};
+    Progress progress{names.size()};
+    Summary summary;
     for (std::size_t k = 0; k < names.size(); k++) {
         while (!workers.wait(k, std::chrono::milliseconds{100})) {
             std::fflush(stdout);
             progress.show(workers.done());
         }
-        const sites::Finding finding = std::move(findings[k]);
-        progress.make_way();
-        const std::string line = sites::line(finding);
-        std::fwrite(line.data(), 1, line.size(), stdout);
+        const Finding finding = std::move(findings[k]);
+        if (wanted(finding)) {
+            progress.make_way();
+            table.print(row(finding));
+        }
         progress.show(workers.done());
         summary.add(finding);
     }
     return summary;
 }
 
-int rejudge(const std::vector<std::string> &words) {
-    const auto options = read_options(words);
-    if (!options || (options->names.empty() && ::isatty(STDIN_FILENO) == 1)) {
-        std::fputs(usage, stderr);
-        return 2;
+int rejudge(const Options &given) {
+    const std::size_t threads = read_threads(given);
+    const Wanted wanted = read_only(given);
+    if (given.names().empty() && input_is_terminal()) {
+        throw WrongWords{"a file or folder is missing"};
     }
-    sites::Search search;
-    for (const std::string &name : options->names) {
+    Search search;
+    for (const std::string &name : given.names()) {
         search.add(name);
     }
-    if (options->names.empty()) {
-        if (const std::string problem = add_list(search, options->name_end); !problem.empty()) {
+    if (given.names().empty()) {
+        if (const std::string problem = add_list(search, given.has("--null") ? '\0' : '\n'); !problem.empty()) {
             std::fprintf(stderr, "rejudge: the list of names could not be read: %s\n", problem.c_str());
             return 2;
         }
     }
-    const sites::Summary summary = judge_all(search.found(), *options);
-    if (!sites::end_output()) {
+    const std::vector<Name> names = search.found();
+    const Table table{names};
+    if (given.has("--header")) {
+        table.print_header();
+    }
+    const Summary summary = judge_all(names, given.has("--store"), threads, table, wanted);
+    if (!end_output()) {
         std::fputs("rejudge: the table could not be written\n", stderr);
         return 2;
     }
-    if (!options->quiet) {
+    if (!given.has("--quiet")) {
         std::fputs(summary.text().c_str(), stderr);
     }
     return summary.status();
@@ -126,6 +147,6 @@ int rejudge(const std::vector<std::string> &words) {
 
 } // namespace
 
-int main(int count, char **words) {
-    return sites::run("rejudge", rejudge, count, words);
-}
+const Command rejudge_command{"rejudge", help, options, rejudge};
+
+} // namespace sites

@@ -23,17 +23,6 @@ std::string new_name(const std::string &verdict) {
     return verdict + ".new";
 }
 
-bool write_all(int file, std::string_view bytes) {
-    while (!bytes.empty()) {
-        const ssize_t count = ::write(file, bytes.data(), bytes.size());
-        if (count < 0 && errno != EINTR) {
-            return false;
-        }
-        bytes.remove_prefix(static_cast<std::size_t>(count < 0 ? 0 : count));
-    }
-    return true;
-}
-
 bool lock(int file, int kind) {
     while (::flock(file, kind) != 0) {
         if (errno != EINTR) {
@@ -63,6 +52,13 @@ bool keep_access(int stored, int file) {
     std::ignore = ::fchown(file, static_cast<uid_t>(-1), about.st_gid);
     std::ignore = ::fchown(file, about.st_uid, static_cast<gid_t>(-1));
     return ::fchmod(file, about.st_mode & mode_bits) == 0;
+}
+
+// A rename lasts when its folder is on the disk; some file systems have no such thing, and say EINVAL.
+bool sync_folder(const std::string &file) {
+    const std::size_t slash = file.rfind('/');
+    const Descriptor folder{slash == std::string::npos ? "." : file.substr(0, slash + 1), O_RDONLY | O_DIRECTORY};
+    return folder.open() && (::fsync(folder.number()) == 0 || errno == EINVAL);
 }
 
 } // namespace
@@ -95,7 +91,7 @@ std::string Store::replace(const std::string &name, std::string_view bytes) cons
     }
     if (write_all(file->number(), bytes) && ::fsync(file->number()) == 0 && (first || keep_access(stored.number(), file->number())) &&
         std::rename(temporary.c_str(), name.c_str()) == 0) {
-        return {};
+        return sync_folder(name) ? "" : "its folder: " + last_problem();
     }
     problem = last_problem();
     ::unlink(temporary.c_str());

@@ -21,8 +21,8 @@ private:
     std::size_t count(Outcome outcome) const { return outcomes_[static_cast<std::size_t>(outcome)]; }
     std::size_t count(Stored stored) const { return stored_[static_cast<std::size_t>(stored)]; }
 
-    std::array<std::size_t, 5> outcomes_{};
-    std::array<std::size_t, 7> stored_{};
+    std::array<std::size_t, outcome_count> outcomes_{};
+    std::array<std::size_t, stored_count> stored_{};
     std::size_t arrows_ = 0;
     std::size_t sheets_with_arrows_ = 0;
     int status_ = 0;

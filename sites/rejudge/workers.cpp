@@ -1,6 +1,6 @@
 #include "workers.hpp"
 
-#include <zarpalume.h>
+#include <zarpalume.hpp>
 
 #include <algorithm>
 #include <climits>
@@ -10,8 +10,8 @@ namespace sites {
 
 namespace {
 
-// The frames from a thread's start down to the call: a verdict has 10 KiB, and the dynamic linker's lookups take 3 KiB.
-constexpr std::size_t own_stack = 32 * 1024;
+// The frames from a thread's start down to the call: a verdict, a second one where it is handed on, and 12 KiB, of which the dynamic linker's lookups take 3.
+constexpr std::size_t own_stack = 2 * sizeof(zarpalume::Verdict) + 12 * 1024;
 
 // What the call is promised, what stands above it, and what a thread needs for itself. std::thread can't be told.
 std::size_t stack_size() {

@@ -65,12 +65,13 @@ void good_texts() {
     check(heard("views\tbroken\toutput\t1\t2\t3\t4\n").broken() == Place{Condition::output, 1, 2, 3, 4}, "output");
     check(heard("views\tbroken\trespect\t1\t2\t3\t-\n").broken() == Place{Condition::respect, 1, 2, 3, {}}, "respect");
     check(heard("views\tbroken\tstep\t1\t2\t3\t4\n").broken() == Place{Condition::step, 1, 2, 3, 4}, "step");
-    check(heard("refused\t8\t34\n").refused() == Refusal{8, 34}, "refused");
+    const auto refused = heard("refused\t8\t34\n");
+    check(refused.refused() == Refusal{8, 34} && refused.outcome() == Outcome::refused, "refused");
 }
 
 void texts_that_no_verdict_has() {
-    check(heard("").refused() == Refusal{}, "an empty text accepts nothing");
-    check(heard("\n\t\n\n").outcome() == Outcome::refused, "empty lines");
+    check(heard("").outcome() == Outcome::mismatched && !heard("").refused() && !heard("").accepted() && !heard("").broken(), "an empty text is no verdict");
+    check(heard("\n\t\n\n").outcome() == Outcome::mismatched, "empty lines");
     check(heard("views").outcome() == Outcome::broken, "a cut line accepts nothing");
     check(heard("views\taccepte\n").outcome() == Outcome::broken, "half a word accepts nothing");
     const auto odd = heard("need\nneed\t5\nneed\t4294967296\t-1\nneed\t1x\t 2\treach\nreach\t07x");

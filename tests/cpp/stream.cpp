@@ -58,13 +58,26 @@ bool called(const Request &request) {
     return length == request.length && buffer == expected;
 }
 
+// Whatever a program has its bytes in.
+bool judged_as_any_kind(std::string_view sheet, std::string_view expected) {
+    std::vector<char> vector{sheet.begin(), sheet.end()};
+    const std::span<char> span{vector};
+    const std::u8string text{sheet.begin(), sheet.end()};
+    const std::string string{sheet};
+    const auto is_right = [&](const zarpalume::Verdict &verdict) { return verdict.text() == expected; };
+    return is_right(zarpalume::judge(vector)) && is_right(zarpalume::judge(span)) && is_right(zarpalume::judge(std::span<const char>{span})) &&
+           is_right(zarpalume::judge(text)) && is_right(zarpalume::judge(std::u8string_view{text})) && is_right(zarpalume::judge(string)) &&
+           is_right(zarpalume::judge(std::move(vector)));
+}
+
 bool wrapped(const Request &request) {
     const std::string_view expected{reinterpret_cast<const char *>(request.buffer.data()), request.length};
     const std::string_view sheet{reinterpret_cast<const char *>(request.sheet.data()), request.sheet.size()};
     const auto verdict = zarpalume::judge(request.sheet);
     const auto elsewhere = judged_elsewhere(sheet);
     const auto bytes = zarpalume::judge(std::as_bytes(std::span{request.sheet}));
-    return verdict.text() == expected && rebuilt(verdict) == expected && elsewhere.text() == expected && bytes.text() == expected;
+    return verdict.text() == expected && rebuilt(verdict) == expected && elsewhere.text() == expected && bytes.text() == expected &&
+           judged_as_any_kind(sheet, expected);
 }
 
 bool right(const Request &request) {

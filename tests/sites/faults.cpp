@@ -15,11 +15,20 @@ namespace {
 
 std::atomic<long> made = 0;
 
+bool is_failing(const char *name) {
+    const char *const fault = std::getenv("SITES_CALL");
+    return fault != nullptr && std::strcmp(fault, name) == 0;
+}
+
+bool is_folder(int file) {
+    struct stat about {};
+    return fstat(file, &about) == 0 && S_ISDIR(about.st_mode);
+}
+
 // What the call gives where it fails, or what the system's own call gives.
 template <typename Result, typename... Words>
 Result failing(const char *name, Result failed, Words... words) {
-    const char *const fault = std::getenv("SITES_CALL");
-    if (fault != nullptr && std::strcmp(fault, name) == 0) {
+    if (is_failing(name)) {
         errno = EIO;
         return failed;
     }
@@ -52,6 +61,10 @@ ssize_t write(int file, const void *bytes, size_t count) {
 }
 
 int fsync(int file) {
+    if (is_folder(file) && is_failing("fsync of a folder")) {
+        errno = EIO;
+        return -1;
+    }
     return failing("fsync", -1, file);
 }
 

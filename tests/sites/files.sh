@@ -79,7 +79,6 @@ odd_names_stay_on_their_line() {
     cp examples/gateway.sheet "$in/$name.sheet"
   done
   rejudges 0 "$(for name in '\x1b[31m' ' ' '-x' 'back\\slash' 'line\nend' 'tab\t' '\xc2\x9b31m' 'ä' '€𝄞' '\xed\xa0\x80' '\xff'; do row "$in/$name.sheet" "${good[@]}" none -; done)" "$in" &&
-    (source tools/scripts.sh && for name in "$in"/*; do escaped "$name" && echo; done) | sort | cmp - <(cut -f 1 "$work/table" | sort) &&
     (cd "$in" && find . -name '*.sheet' -printf '%P\0') | rejudge_in "$in" --quiet --null | cmp - <(sed "s:^$in/::" "$work/table") &&
     rejudge_in "$in" --quiet -- -x.sheet | cmp - <(row -x.sheet "${good[@]}" none -)
 }
@@ -116,7 +115,7 @@ as_nobody() { # [WORD...]
   if ((EUID == 0)); then
     nobody=(setpriv --reuid=65534 --regid=65534 --clear-groups)
   fi
-  cp target/sites/rejudge "$work/program" && "${nobody[@]}" "${emulator[@]}" "$work/program" "$@"
+  cp target/sites/zarpalume "$work/program" && "${nobody[@]}" "${emulator[@]}" "$work/program" rejudge "$@"
 }
 
 what_is_shut_is_told() {

@@ -71,13 +71,13 @@ draw_tells_what_it_could_not_do() {
   in=$(room undrawn)
   mkdir "$in/folder.svg"
   ./draw examples/gateway.sheet "$in/folder.svg" 2>"$work/said"
-  [[ $? == 2 && $(tail -n 1 "$work/said") == "draw: $in/folder.svg could not be drawn" && $(find "$in") == "$in"$'\n'"$in/folder.svg" ]] || return 1
+  [[ $? == 2 && $(tail -n 1 "$work/said") == "draw: $in/folder.svg: Is a directory" && $(find "$in") == "$in"$'\n'"$in/folder.svg" ]] || return 1
   # A limit on the size of files stands for a disk that is full just before the end, where the signal is ignored.
   ./draw examples/gateway.sheet "$in/whole.svg" || return 1
   (trap '' XFSZ && ulimit -f $((($(wc -c <"$in/whole.svg") - 1) / 1024)) && exec ./draw examples/gateway.sheet "$in/full.svg" 2>/dev/null)
   [[ $? == 2 && $(ls "$in") == $'folder.svg\nwhole.svg' ]] || return 1
   ./draw examples/gateway.sheet "$in/nowhere/"$'\n\033.svg' 2>"$work/said"
-  [[ $? == 2 && $(tail -n 1 "$work/said") == "draw: $in/nowhere/"'\n\x1b.svg could not be written' ]] || return 1
+  [[ $? == 2 && $(tail -n 1 "$work/said") == "draw: $in/nowhere/"'\n\x1b.svg: No such file or directory' ]] || return 1
   ./draw examples/gateway.sheet >/dev/full 2>"$work/said"
   [[ $? == 2 && $(<"$work/said") == 'draw: what dot is given could not be written' ]] || return 1
   ./draw examples/gateway.sheet >&- 2>"$work/said"
@@ -90,4 +90,21 @@ draw_tells_what_it_could_not_do() {
   [[ $? == 2 && -z $(compgen -G "$work/gateway.strange*") ]] || return 1
   ./draw 2>/dev/null
   [[ $? == 2 ]]
+}
+
+# Nothing but the lost arrows and their boxes, and it says so.
+draw_can_show_lost_arrows_only() {
+  ./draw --only lost examples/gateway-log.sheet "$work/lost.svg" && shows "$work/lost.svg" 'only needed arrows with no drawn path are shown' &&
+    [[ $(shown "$work/lost.svg" | grep '^b[0-9]' | LC_ALL=C sort) == $'b1\nb1-&gt;b5 needed-lost\nb3\nb3-&gt;b5 needed-lost\nb5' ]] || return 1
+  ./draw --only los examples/gateway.sheet 2>"$work/said"
+  [[ $? == 2 && $(head -n 1 "$work/said") == 'draw: --only wants lost, and not los' ]]
+}
+
+# Where the pointer rests, also over odd labels.
+tooltips_have_labels_and_kind() {
+  sed '2s/Red/\\N "<\&>\\\\/' examples/gateway-log.sheet >"$work/tip.sheet" && ./draw "$work/tip.sheet" "$work/tip.svg" || return 1
+  grep -o 'xlink:title="[^"]*"' "$work/tip.svg" | sed "s/&#160;\\|\xc2\xa0/ /g; s/&#45;/-/g; s/&quot;/\"/g; s/&lt;/</g; s/&gt;/>/g; s/&#92;/\\\\/g; s/&amp;/\\&/g" >"$work/tips"
+  grep -Fxq 'xlink:title="Bypass -> Log: needed, and no drawn path"' "$work/tips" && grep -Fxq 'xlink:title="Log, id 5"' "$work/tips" &&
+    grep -Fxq 'xlink:title="\N "<&>\\, id 1"' "$work/tips" &&
+    grep -Fxq 'xlink:title=""\\N \"<&>\\\\" -> Log: needed, and no drawn path"' "$work/tips"
 }

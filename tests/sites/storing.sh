@@ -119,7 +119,7 @@ storing_never_writes_to_a_sheet() {
 # The table must not go into a verdict that has its descriptor; with many threads there is always one that is being written.
 storing_with_closed_descriptors_is_whole() {
   local program
-  for program in ./rejudge "${emulator[*]} target/sites/rejudge"; do
+  for program in ./rejudge "${emulator[*]} target/sites/zarpalume rejudge"; do
     rm -rf "$work/closed"
     cp -r "$work/many" "$work/closed"
     # shellcheck disable=SC2086
@@ -151,6 +151,16 @@ storing_tells_each_fault() {
     [[ $? == 2 && $(<"$in/gateway.verdict") == 'an old verdict' && $(ls "$in") == $'gateway.sheet\ngateway.verdict' ]] &&
       diff "$work/table" <(row "$in/gateway.sheet" "${good[@]}" unwritten "Input/output error, -an old verdict, $gateway_lines") || { echo "sites: $call" && return 1; }
   done
+}
+
+# The new verdict is there by then, and may be gone when the power goes.
+storing_tells_that_the_folder_is_not_on_the_disk() {
+  local in
+  in=$(room folder-fault)
+  cp examples/gateway.sheet "$in"
+  SITES_CALL='fsync of a folder' with_faults rejudge --quiet --store "$in" >"$work/table"
+  [[ $? == 2 && $(ls "$in") == $'gateway.sheet\ngateway.verdict' ]] && cmp "$in/gateway.verdict" examples/gateway.verdict &&
+    diff "$work/table" <(row "$in/gateway.sheet" "${good[@]}" unwritten 'its folder: Input/output error')
 }
 
 # Only root can give files to others.

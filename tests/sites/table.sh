@@ -123,3 +123,42 @@ a_bar_only_on_a_terminal() {
   ./rejudge --threads 1 "$work/many" >/dev/null 2>"$work/said"
   [[ $(wc -l <"$work/said") == 3 ]] && ! grep -q 'left' "$work/said"
 }
+
+# The columns' names stand before the lines, in a pipe parted by tabs as these are.
+a_header_names_the_columns() {
+  ./rejudge --quiet --header examples >"$work/table"
+  [[ $? == 1 && $(head -n 1 "$work/table") == $'path\toutcome\tplace\tneeded\tundrawn\tlost\treach\tstored\tchange\tlost arrows' ]] && tail -n +2 "$work/table" | cmp - tests/sites/examples.table
+}
+
+# Of the stored table those lines for which this holds, and the status of all.
+only_these_lines_are_printed() { # KIND AWK-CONDITION
+  local status
+  ./rejudge --only "$1" examples >"$work/table" 2>"$work/said"
+  status=$?
+  awk -F'\t' "$2" tests/sites/examples.table | cmp - "$work/table" && [[ $status == 1 && -s $work/table ]] && grep -q '^judged: 6 accepted, ' "$work/said"
+}
+
+lines_can_be_chosen() {
+  only_these_lines_are_printed changed '$8 == "changed"' && only_these_lines_are_printed broken '$2 == "broken"' &&
+    only_these_lines_are_printed refused '$2 == "refused"' && only_these_lines_are_printed lost '$6 > 0' &&
+    rejudges 2 '' --only loste examples && grep -q '^rejudge: --only wants changed, broken, refused or lost, and not loste$' "$work/said"
+}
+
+# By blanks, so that each column begins in one place; the fields are those of the pipe.
+a_terminal_has_the_table_aligned() {
+  local in
+  in=$(room aligned)
+  cp examples/gateway-log.sheet "$in/ä.sheet"
+  cp examples/gateway.sheet "$in/longer.sheet"
+  script -qec "./rejudge --quiet --header '$in' 2>/dev/null" /dev/null </dev/null | tr -d '\r' | sed 's/^\x1b\[K//' >"$work/table"
+  [[ $(sed "s:$in/ä:$in/a:" "$work/table" | awk '{ print index($0, $2), index($0, $3) }' | sort -u | wc -l) == 1 && $(wc -l <"$work/table") == 3 ]] &&
+    sed 's/   */\t/g' "$work/table" | cmp - <(./rejudge --quiet --header "$in")
+}
+
+lost_arrows_are_named() {
+  local in
+  in=$(room named)
+  sed '6s/Log/Red/' examples/gateway-log.sheet >"$in/same.sheet"
+  sed '6s/Log/a, b -> c/' examples/gateway-log.sheet >"$in/odd.sheet"
+  [[ $(./rejudge --quiet "$in" | cut -f 10) == $'Red -> "a, b -> c", Bypass -> "a, b -> c"\nRed (1) -> Red (5), Bypass -> Red (5)' ]]
+}
