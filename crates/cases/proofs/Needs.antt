@@ -8,7 +8,7 @@ use mathlib.Core.Option as option
 use Prim.Native.Nat.{ℕ, suc, ◌<◌}
 use lib.Dec.{eqb, ltb}
 use lib.ListN.{length, get_or}
-use borrow.Author.Tests.{eqb-true, eq-eqb, ltb-true, not_true}
+use borrow.Author.Tests.{eqb-true, eq-eqb, ltb-true, not-true}
 use Rattle.laws.specs.Choice.{both, brings, choose}
 use Rattle.laws.specs.Range.{every, count, tabulate}
 use Rattle.laws.specs.Lists.{All}
@@ -148,7 +148,7 @@ module _ (c : Case) (k : Certificate) (g : good c ≡ true) (r : reach_right c k
       let b = both_true _ _ (every_at _ _ d u l) in
       record {
         enough = (stable_says (machine c) u (inside k) reaches _).0 b.0;
-        least = λ j lj st. not_both ((stable_says (machine c) u (inside k) reaches j).1 st) (not_true _ (every_at _ _ b.1 j lj));
+        least = λ j lj st. not_both ((stable_says (machine c) u (inside k) reaches j).1 st) (not-true _ (every_at _ _ b.1 j lj));
       }
 
   depth_of_lem : (u : ℕ) → u < c.model.machine.sizes.boxes → depth_of (machine c) u ≡ get_or k.depths u 0

@@ -9,7 +9,7 @@ use native.Mathlib.Decide.{dec_lt}
 use native.Mathlib.Nat.{le_trans}
 use lib.Dec.{ltb, eqb}
 use lib.ListN.{length}
-use borrow.Author.Tests.{ltb_false, eqb-false}
+use borrow.Author.Tests.{ltb-false, eqb-false}
 use Rattle.text.specs.Number.{on_number, digit, more, number, digits, decimal}
 use Rattle.text.specs.declared.Number.{Number}
 use Rattle.text.specs.declared.Number.TheVariants as numbers
@@ -32,7 +32,7 @@ grown limit v d w h = go (ltb d 48) (ltb 57 d) (ltb limit (v * 10 + (d - 48))) r
     go true t u p q h = no_number h
     go false true u p q h = no_number h
     go false false true p q h = no_number h
-    go false false false p q h = record { low = ltb_false d 48 p; high = ltb_false 57 d q; is = let z : v * 10 + (d - 48) ≡ w = cc in sym z }
+    go false false false p q h = record { low = ltb-false d 48 p; high = ltb-false 57 d q; is = let z : v * 10 + (d - 48) ≡ w = cc in sym z }
 
 digits_grown : (k v d w : ℕ) → 0 < v → Grown v d w → digits (suc k) w ≡ digits k v ++ (d ∷ [])
 digits_grown k v d w p g =

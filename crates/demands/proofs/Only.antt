@@ -9,7 +9,7 @@ use Prim.Native.Nat.{ℕ, ◌*◌, ◌<◌}
 use native.Mathlib.Omega.{arith}
 use lib.Dec.{ltb}
 use lib.ListN.{length, get_or, take-append-drop}
-use borrow.Author.Tests.{eqb-true, eq-eqb, ltb-true, ltb_false}
+use borrow.Author.Tests.{eqb-true, eq-eqb, ltb-true, ltb-false}
 use lib.Seq.{ext_get_or}
 use Rattle.laws.proofs.Tests.{by_test, not_both}
 use Rattle.noninterference.specs.Machine as noninterference
@@ -87,7 +87,7 @@ module _ (M : noninterference.Machine) (c : Closed M (λ s. s < M.states)) (x y 
   same_depth u =
       by_test (ltb u M.boxes)
       (λ e. let l = ltb-true _ _ e in depth_unique M u _ _ (f.4.depth u l) (g.4.depth u l))
-      (λ e. let l = ltb_false _ _ e in f.4.beyond u l ∙ sym (g.4.beyond u l))
+      (λ e. let l = ltb-false _ _ e in f.4.beyond u l ∙ sym (g.4.beyond u l))
 
   same_depths : x.0.depths ≡ y.0.depths
   same_depths = ext_get_or 0 x.0.depths y.0.depths (f.3 ∙ sym g.3) (λ i p. same_depth i)
@@ -127,7 +127,7 @@ module _ (calls : Calls) (d1 : Demand1 calls) (d2 : Demand2 calls.judge) (d3 : D
       go (model z p) e =
           by_test (ltb position z.boxes)
           (λ b. let h = ltb-true _ _ b in a.label t position z p e h ∙ sym (answers.label t position z p e h))
-          (λ b. as_refused 13 0 (thirteen z p e (ltb_false _ _ b)))
+          (λ b. as_refused 13 0 (thirteen z p e (ltb-false _ _ b)))
       go (refusal n l) e = as_refused n l (text (refused_means t n l e))
 
   judge_only : (m : Model) (next outputs views : Table) → calls.judge m next outputs views ≡ ours.judge m next outputs views

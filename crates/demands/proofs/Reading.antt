@@ -8,7 +8,7 @@ use Prim.Native.Nat.{ℕ, ◌<◌, ◌≤◌}
 use native.Mathlib.Omega.{arith}
 use lib.Dec.{eqb, ltb, leb}
 use lib.ListN.{length}
-use borrow.Author.Tests.{eqb-true, ltb-true, ltb_false, lt-ltb, le-ltb, leb-true}
+use borrow.Author.Tests.{eqb-true, ltb-true, ltb-false, lt-ltb, le-ltb, leb-true}
 use Rattle.laws.specs.Choice.{both, either, choose}
 use Rattle.laws.proofs.Tests.{by_test, not_both, both_true, either_true}
 use Rattle.model.specs.Limits.{NEXT_ENTRIES, OUTPUT_ENTRIES, VIEW_ENTRIES, VERDICT_BYTES}
@@ -166,7 +166,7 @@ module _ (t : List ℕ) (position : ℕ) where
       from h (model z p) q =
           by_test (ltb position z.boxes)
           (λ b. let d : 0 ≡ n = sym (ap (λ x. x.number) (label_found_lem z p q (ltb-true _ _ b))) ∙ h.1 in absurd (omega (arith, h.0)))
-          (λ b. moved_label h.1 h.2 (thirteen z p q (ltb_false _ _ b)))
+          (λ b. moved_label h.1 h.2 (thirteen z p q (ltb-false _ _ b)))
       from h (refusal n' l') q = moved_label h.1 h.2 (text (refused_means t n' l' q))
 
 -- ---- the verdict

@@ -7,7 +7,7 @@ use Prim.Native.Nat.{ℕ, ◌+◌, ◌-◌, ◌<◌, ◌≤◌}
 use native.Mathlib.Omega.{arith}
 use lib.ListN.{length}
 use lib.Dec.{eqb, ltb}
-use borrow.Author.Tests.{eq-eqb, ne_eqb, leb-true, ltb-true, ltb_false, eqb-true}
+use borrow.Author.Tests.{eq-eqb, ne_eqb, leb-true, ltb-true, ltb-false, eqb-true}
 use Rattle.laws.specs.Choice.{both, choose}
 use Rattle.laws.specs.Bits.{bit}
 use Rattle.laws.proofs.Tests.{by_test, both_true, both_of, both_no}
@@ -42,7 +42,7 @@ small l h long ok b =
     record {
       small = λ k. by_test (ltb k (boxes l))
           (λ t. omega (arith, s.within k (ltb-true _ _ t), power_small (boxes l) 31 (omega arith)))
-          (λ t. rw (s.rest k (ltb_false _ _ t)) (power_pos 31));
+          (λ t. rw (s.rest k (ltb-false _ _ t)) (power_pos 31));
     }
 
 pub undoable : (l : List BoxRecord) (h : History) → length l ≡ BOXES → allowed l h ≡ true → (e : Entry) → fits e l ≡ true → Undoable e l

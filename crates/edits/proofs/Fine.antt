@@ -7,7 +7,7 @@ use mathlib.Core.Logic.{⊎_elim}
 use Prim.Native.Nat.{ℕ, ◌<◌, ◌≤◌, ◌^◌}
 use native.Mathlib.Omega.{arith}
 use lib.ListN.{length, get_or-eq_default}
-use borrow.Author.Tests.{ltb-true, lt-ltb, le-ltb, leb-true, le-leb, eqb-true, eq-eqb, ne_eqb, not_true}
+use borrow.Author.Tests.{ltb-true, lt-ltb, le-ltb, leb-true, le-leb, eqb-true, eq-eqb, ne_eqb, not-true}
 use Rattle.laws.specs.Choice.{both, choose}
 use Rattle.laws.specs.Bits.{bit}
 use Rattle.laws.proofs.Tests.{both_true, both_of, both_no, false_of}
@@ -53,7 +53,7 @@ is_box_lem l h n k e =
     let f = both_true _ _ e in
     let g = both_true _ _ f.1 in
     let i = both_true _ _ g.1 in
-    record { own = eqb-true _ _ f.0; kept = not_true _ g.0; within = ltb-true _ _ i.0; other = eqb-true _ _ i.1 }
+    record { own = eqb-true _ _ f.0; kept = not-true _ g.0; within = ltb-true _ _ i.0; other = eqb-true _ _ i.1 }
 
 pub sound : (l : List BoxRecord) (h : History) → length l ≡ BOXES → allowed l h ≡ true → Sound (boxes l) l h
 unfolding allowed good_at choose

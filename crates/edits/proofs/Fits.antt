@@ -8,7 +8,7 @@ use native.Mathlib.Omega.{arith}
 use lib.ListN.{length, set}
 use lib.Seq.{set-set, set-get_or}
 use lib.Dec.{ltb, eqb}
-use borrow.Author.Tests.{ltb-true, ltb_false, lt-ltb, le-ltb, leb-true, le-leb, eqb-true, eqb-false, eq-eqb, ne_eqb, not_true}
+use borrow.Author.Tests.{ltb-true, ltb-false, lt-ltb, le-ltb, leb-true, le-leb, eqb-true, eqb-false, eq-eqb, ne_eqb, not-true}
 use Rattle.laws.specs.Choice.{choose}
 use Rattle.laws.specs.Bits.{bit}
 use Rattle.laws.proofs.Tests.{by_test, not_both, both_true, both_of, brings_at}
@@ -42,7 +42,7 @@ module _ {n : ℕ} {l : List BoxRecord} (s : Listed n l) where
       arrows_small : (k : ℕ) → bit n (at l k).arrows ≡ 0
       arrows_small k = by_test (ltb k n)
           (λ t. bit_high n n (at l k).arrows (s.within k (ltb-true _ _ t)) (omega arith))
-          (λ t. ap (λ (box : BoxRecord). bit n box.arrows) (s.rest k (ltb_false _ _ t)) ∙ bit_none n)
+          (λ t. ap (λ (box : BoxRecord). bit n box.arrows) (s.rest k (ltb-false _ _ t)) ∙ bit_none n)
 
   add_fits : (i : ℕ) → n < BOXES → boxes (set l n (new_box i)) ≡ n + 1 → fits_add (added i) (set l n (new_box i)) ≡ true
   add_fits i b e =
@@ -113,7 +113,7 @@ arrow_is e m =
     let i = both_true _ _ g.1 in
     let j = both_true _ _ i.1 in
     let k = both_true _ _ j.1 in
-    record { is = rw (eqb-true e.id 0 j.0, eqb-true e.out 0 k.0, eqb-true e.into 0 k.1); apart = eqb-false _ _ (not_true _ i.0) }
+    record { is = rw (eqb-true e.id 0 j.0, eqb-true e.out 0 k.0, eqb-true e.into 0 k.1); apart = eqb-false _ _ (not-true _ i.0) }
 
 -- ---- what fits was done: the list before it is allowed beside the rest of the history
 module _ (l : List BoxRecord) (h : History) (begun : h.count ≡ 0 → ⊥) where
@@ -133,7 +133,7 @@ module _ (l : List BoxRecord) (h : History) (begun : h.count ≡ 0 → ⊥) wher
 
     fresh_id : e.kind ≤ DELETE → deleted (rest h) e.id ≡ false
     unfolding good_entry
-    fresh_id b = not_true _ (brings_at _ _ (both_true _ _ good).1 (le-leb _ _ b))
+    fresh_id b = not-true _ (brings_at _ _ (both_true _ _ good).1 (le-leb _ _ b))
 
     kept_rest : (k : ℕ) → k < n → deleted (rest h) (at l k).id ≡ false
     kept_rest k t = deleted_fewer h.words (h.count - 1) h.count (at l k).id (omega arith) (s.kept k t)

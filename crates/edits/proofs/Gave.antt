@@ -9,7 +9,7 @@ use lib.ListN.{length, set, length-set}
 use lib.Seq.{get_or-set_same, get_or-set_other, set-set, set-get_or}
 use lib.Dec.{ltb, eqb}
 use borrow.Author.Count.{below_more}
-use borrow.Author.Tests.{ltb_false, eqb-true, eqb-false}
+use borrow.Author.Tests.{ltb-false, eqb-true, eqb-false}
 use Rattle.laws.specs.Choice.{choose}
 use Rattle.laws.specs.Bits.{bit}
 use Rattle.laws.proofs.Chosen.{chosen}
@@ -52,7 +52,7 @@ change_gave l h (Add i) =
     chosen (Result l h) (ltb (place l i) BOXES) _ _ (λ _ z. absurd (omega arith)) (λ a.
     chosen (Result l h) (deleted h i) _ _ (λ _ z. absurd (omega arith)) (λ b.
     chosen (Result l h) (eqb (boxes l) BOXES) _ _ (λ _ z. absurd (omega arith)) (λ d _.
-    let le : BOXES ≤ place l i = ltb_false _ _ a in
+    let le : BOXES ≤ place l i = ltb-false _ _ a in
     let ne : boxes l ≡ BOXES → ⊥ = eqb-false _ _ d in
     adding i (λ s. omega arith) b (omega (arith, boxes_most l)))))
 change_gave l h (Delete i) =

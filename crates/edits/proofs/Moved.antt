@@ -9,7 +9,7 @@ use native.Mathlib.Numerals.{add-one}
 use native.Mathlib.Omega.{arith}
 use lib.ListN.{length}
 use lib.Dec.{ltb}
-use borrow.Author.Tests.{ltb-true, ltb_false, lt-ltb, le-ltb, eq-eqb, ne_eqb}
+use borrow.Author.Tests.{ltb-true, ltb-false, lt-ltb, le-ltb, eq-eqb, ne_eqb}
 use Rattle.laws.specs.Choice.{choose}
 use Rattle.laws.specs.Bits.{bit, cut, put}
 use Rattle.laws.proofs.Chosen.{chosen}
@@ -32,19 +32,19 @@ skip_behind p k l = rw (le-ltb k p l)
 
 pub skip_apart : (p k : ℕ) → skip p k ≡ p → ⊥
 skip_apart p k = chosen (λ (m : ℕ). m ≡ p → ⊥) (ltb k p) k (k + 1)
-    (λ e q. let t : k < p = ltb-true _ _ e in omega arith) (λ e q. let t : p ≤ k = ltb_false _ _ e in omega arith)
+    (λ e q. let t : k < p = ltb-true _ _ e in omega arith) (λ e q. let t : p ≤ k = ltb-false _ _ e in omega arith)
 
 pub skip_below : (p k n : ℕ) → p < n → k < n - 1 → skip p k < n
 skip_below p k n b t = chosen (λ (m : ℕ). m < n) (ltb k p) k (k + 1) (λ _. omega arith) (λ _. omega arith)
 
 pub skip_one : (p j k : ℕ) → skip p j ≡ skip p k → j ≡ k
 skip_one p j k = chosen (λ (m : ℕ). m ≡ skip p k → j ≡ k) (ltb j p) j (j + 1)
-    (λ e. chosen (λ (m : ℕ). j ≡ m → j ≡ k) (ltb k p) k (k + 1) (λ d q. q) (λ d q. let t : j < p = ltb-true _ _ e in let u : p ≤ k = ltb_false _ _ d in omega arith))
-    (λ e. chosen (λ (m : ℕ). j + 1 ≡ m → j ≡ k) (ltb k p) k (k + 1) (λ d q. let t : p ≤ j = ltb_false _ _ e in let u : k < p = ltb-true _ _ d in omega arith) (λ d q. omega arith))
+    (λ e. chosen (λ (m : ℕ). j ≡ m → j ≡ k) (ltb k p) k (k + 1) (λ d q. q) (λ d q. let t : j < p = ltb-true _ _ e in let u : p ≤ k = ltb-false _ _ d in omega arith))
+    (λ e. chosen (λ (m : ℕ). j + 1 ≡ m → j ≡ k) (ltb k p) k (k + 1) (λ d q. let t : p ≤ j = ltb-false _ _ e in let u : k < p = ltb-true _ _ d in omega arith) (λ d q. omega arith))
 
 pub bit_skip : (p k x : ℕ) → bit k (cut p x) ≡ bit (skip p k) x
 bit_skip p k x = chosen (λ (m : ℕ). bit k (cut p x) ≡ bit m x) (ltb k p) k (k + 1)
-    (λ e. bit_cut_below p k x (ltb-true _ _ e)) (λ e. bit_cut_above p k x (ltb_false _ _ e) ∙ rw (add-one k))
+    (λ e. bit_cut_below p k x (ltb-true _ _ e)) (λ e. bit_cut_above p k x (ltb-false _ _ e) ∙ rw (add-one k))
 
 -- ---- by positions
 pub left_is : (l : List BoxRecord) (p k : ℕ) → k < BOXES → at (without_box l p) k ≡ left_at l p k

@@ -8,7 +8,7 @@ use native.Mathlib.Numerals.{add-one}
 use native.Mathlib.Omega.{arith}
 use lib.ListN.{set, length-set, get_or-eq_default}
 use lib.Dec.{ltb}
-use borrow.Author.Tests.{ltb-true, ltb_false, lt-ltb, le-ltb, eq-eqb, ne_eqb}
+use borrow.Author.Tests.{ltb-true, ltb-false, lt-ltb, le-ltb, eq-eqb, ne_eqb}
 use Rattle.laws.specs.Choice.{choose}
 use Rattle.laws.specs.Bits.{bit, put}
 use Rattle.laws.proofs.Chosen.{chosen}
@@ -42,7 +42,7 @@ module _ {n : ℕ} {l : List BoxRecord} (s : Listed (n + 1) l) where
 -- ---- positions, the other way
 pub unskip_below : (p k n : ℕ) → p ≤ n → k < n + 1 → (k ≡ p → ⊥) → unskip p k < n
 unskip_below p k n b t ne = chosen (λ (m : ℕ). m < n) (ltb k p) k (k - 1)
-    (λ e. let l : k < p = ltb-true _ _ e in omega arith) (λ e. let l : p ≤ k = ltb_false _ _ e in omega arith)
+    (λ e. let l : k < p = ltb-true _ _ e in omega arith) (λ e. let l : p ≤ k = ltb-false _ _ e in omega arith)
 
 unskip_skip : (p k : ℕ) → unskip p (skip p k) ≡ k
 unfolding choose
@@ -64,7 +64,7 @@ unskip_one p j k nj nk q = sym (skip_unskip p j nj) ∙ ap (skip p) q ∙ skip_u
 bit_unskip : (p k b x : ℕ) → b < 2 → (k ≡ p → ⊥) → bit k (put p b x) ≡ bit (unskip p k) x
 bit_unskip p k b x s ne = chosen (λ (m : ℕ). bit k (put p b x) ≡ bit m x) (ltb k p) k (k - 1)
     (λ e. bit_put_below p k b x s (ltb-true _ _ e))
-    (λ e. let l : p ≤ k = ltb_false _ _ e in let m : k ≡ suc (k - 1) = omega arith in ap (λ (j : ℕ). bit j (put p b x)) m ∙ bit_put_above p (k - 1) b x s (omega arith))
+    (λ e. let l : p ≤ k = ltb-false _ _ e in let m : k ≡ suc (k - 1) = omega arith in ap (λ (j : ℕ). bit j (put p b x)) m ∙ bit_put_above p (k - 1) b x s (omega arith))
 
 -- ---- with a box put in
 module _ {n : ℕ} {l : List BoxRecord} (s : Listed n l) (p into : ℕ) (box : BoxRecord) (room : n < BOXES) (b : p ≤ n) (lives : box.live ≡ 1)

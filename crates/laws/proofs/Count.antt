@@ -7,7 +7,7 @@ use Prim.Native.Nat.{ℕ, zero, suc, ◌<◌, ◌≤◌}
 use native.Mathlib.Omega.{arith}
 use native.Mathlib.Decide.{dec_lt}
 use native.Mathlib.Nat.{not-suc-le-zero}
-use borrow.Author.Tests.{not_true, not-false}
+use borrow.Author.Tests.{not-true, not-false}
 use Rattle.laws.specs.Choice.{both, choose}
 use Rattle.laws.specs.Range.{every, count}
 use Rattle.laws.proofs.Tests.{by_test, not_both, both_true, both_of}
@@ -104,7 +104,7 @@ module _ (n : ℕ) (counts : ℕ → Bool) (E F : ℕ → ℕ → Bool) (q_e : E
   leads_finer i h =
       both_of (both_true _ _ h).0
       (every_of i _ (λ t l. by_test (both (counts t) (F t i))
-      (λ e. not_both (both_of (both_true _ _ e).0 (finer t i (both_true _ _ e).1)) (not_true _ (every_at i _ (both_true _ _ h).1 t l)))
+      (λ e. not_both (both_of (both_true _ _ e).0 (finer t i (both_true _ _ e).1)) (not-true _ (every_at i _ (both_true _ _ h).1 t l)))
       (λ e. ap not e)))
 
   -- the later of two first members of F's classes in one class of E is no first member of E's
@@ -112,7 +112,7 @@ module _ (n : ℕ) (counts : ℕ → Bool) (E F : ℕ → ℕ → Bool) (q_e : E
   unfolding leads
   later x y l hx e =
       by_test (leads counts E y)
-      (λ h. not_both (both_of (both_true _ _ hx).0 e) (not_true _ (every_at y _ (both_true _ _ h).1 x l)))
+      (λ h. not_both (both_of (both_true _ _ hx).0 e) (not-true _ (every_at y _ (both_true _ _ h).1 x l)))
       (λ h. h)
 
   pub more_classes : (s t : ℕ) → s < n → t < n → counts s ≡ true → counts t ≡ true → E s t ≡ true → F s t ≡ false →

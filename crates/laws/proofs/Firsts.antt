@@ -4,7 +4,7 @@ use mathlib.Core.Path.{◌≡◌, sym, ap, ◌∙◌}
 use mathlib.Core.Bool.{Bool, true, false, not}
 use Prim.Native.Nat.{ℕ, ◌<◌, ◌≤◌}
 use native.Mathlib.Omega.{arith}
-use borrow.Author.Tests.{not_true}
+use borrow.Author.Tests.{not-true}
 use Rattle.laws.specs.Range.{first, Held}
 use Rattle.laws.proofs.Tests.{false_of, told}
 use Rattle.laws.proofs.Range.{first_at, first_none, first_le, first_least, held_none, held_more}
@@ -16,11 +16,11 @@ first_before n p i l = false_of (λ e. let h : first n p ≤ i = first_least n p
 
 -- the loop has met a number that passes
 pub first_met : (n : ℕ) (p : ℕ → Bool) (i : ℕ) → i < n → Held i (λ k. not (p k)) → p i ≡ true → i ≡ first n p
-first_met n p i l h e = sym (first_at n p i l (λ j b. not_true _ (h.each j b)) e)
+first_met n p i l h e = sym (first_at n p i l (λ j b. not-true _ (h.each j b)) e)
 
 -- the loop has come to the end
 pub first_missed : (n : ℕ) {i : ℕ} (p : ℕ → Bool) → n ≤ i → Held i (λ k. not (p k)) → n ≡ first n p
-first_missed n p l h = sym (first_none n p (λ j b. not_true _ (h.each j (omega arith))))
+first_missed n p l h = sym (first_none n p (λ j b. not-true _ (h.each j (omega arith))))
 
 -- the code's flag f is the test b, and tells that b, or its opposite, fails
 pub told_no : {f : Bool} (b : Bool) → f ≡ b → f ≡ false → not b ≡ true

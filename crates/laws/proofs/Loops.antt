@@ -5,7 +5,7 @@ use mathlib.Core.Bool.{Bool, true, false, not}
 use Prim.Native.Nat.{ℕ, ◌<◌, ◌≤◌}
 use native.Mathlib.Omega.{arith}
 use lib.Dec.{eqb, ltb, leb}
-use borrow.Author.Tests.{not_true, lt-ltb, le-ltb, le-leb, lt-leb, eq-eqb, ne_eqb}
+use borrow.Author.Tests.{not-true, lt-ltb, le-ltb, le-leb, lt-leb, eq-eqb, ne_eqb}
 use Rattle.laws.specs.Choice.{both, brings}
 use Rattle.laws.specs.Range.{every, some, Held}
 use Rattle.laws.proofs.Tests.{told, both_of, both_no}
@@ -24,7 +24,7 @@ pub some_yes : (n : ℕ) (p : ℕ → Bool) (i : ℕ) → i < n → p i ≡ true
 some_yes n p i l e = sym (some_of n p i l e)
 
 pub some_no : (n : ℕ) {i : ℕ} (p : ℕ → Bool) → n ≤ i → Held i (λ k. not (p k)) → false ≡ some n p
-some_no n p l h = sym (some_none n p (λ k q. not_true _ (h.each k (omega arith))))
+some_no n p l h = sym (some_none n p (λ k q. not-true _ (h.each k (omega arith))))
 
 -- what the code compared, r, was read at x
 pub read_lt : {r : ℕ} (x n : ℕ) → r ≡ x → r < n → ltb x n ≡ true

@@ -7,14 +7,14 @@ use Prim.Native.Nat.{ℕ, ◌<◌}
 use native.Mathlib.Omega.{arith}
 use lib.Dec.{ltb}
 use lib.ListN.{length}
-use borrow.Author.Tests.{ltb-true, ltb_false}
+use borrow.Author.Tests.{ltb-true, ltb-false}
 use Rattle.laws.specs.Order.{Earlier}
 use Rattle.laws.proofs.Tests.{by_test}
 
 same_number : (x y : ℕ) → ¬ (x < y) → ¬ (y < x) → x ≡ y
 same_number x y a b =
     by_test (ltb x y) (λ e. absurd (a (ltb-true x y e)))
-    (λ e. by_test (ltb y x) (λ f. absurd (b (ltb-true y x f))) (λ f. let g = ltb_false x y e in let h = ltb_false y x f in omega arith))
+    (λ e. by_test (ltb y x) (λ f. absurd (b (ltb-true y x f))) (λ f. let g = ltb-false x y e in let h = ltb-false y x f in omega arith))
 
 pub same_place : (xs ys : List ℕ) → length xs ≡ length ys → ¬ Earlier xs ys → ¬ Earlier ys xs → xs ≡ ys
 same_place [] [] l a b = refl

@@ -7,7 +7,7 @@ use mathlib.Core.List.{List}
 use Prim.Native.Nat.{ℕ, ◌^◌, ◌<◌, ◌≤◌}
 use native.Mathlib.Omega.{arith}
 use lib.Dec.{eqb}
-use borrow.Author.Tests.{ltb-true, leb-true, lt-ltb, le-ltb, le-leb, eq-eqb, ne_eqb, not_true}
+use borrow.Author.Tests.{ltb-true, leb-true, lt-ltb, le-ltb, le-leb, eq-eqb, ne_eqb, not-true}
 use Rattle.laws.proofs.Tests.{both_true, both_of, not_both}
 use Rattle.laws.proofs.Range.{every_at, every_of, by_order}
 use Rattle.laws.specs.Choice.{choose}
@@ -27,7 +27,7 @@ sized_is most n = (
 )
 
 unlike_is : (m n : ℕ) → (not (eqb m n) ≡ true) ↔ (m ≡ n → ⊥)
-unlike_is m n = (λ e q. not_both (eq-eqb m n q) (not_true _ e), λ h. rw (ne_eqb m n h))
+unlike_is m n = (λ e q. not_both (eq-eqb m n q) (not-true _ e), λ h. rw (ne_eqb m n h))
 
 -- ---- the machine
 pub machine_good : (m : Machine) → (machine_fits m ≡ true) ↔ GoodMachine m

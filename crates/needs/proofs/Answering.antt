@@ -7,7 +7,7 @@ use Prim.Native.Nat.{ℕ, zero, suc, ◌+◌, ◌<◌, ◌≤◌}
 use native.Mathlib.Nat.{not-suc-le-zero}
 use native.Mathlib.Omega.{arith}
 use borrow.Author.Count.{below_more}
-use borrow.Author.Tests.{eq-eqb, ne_eqb, ltb-true, ltb_false}
+use borrow.Author.Tests.{eq-eqb, ne_eqb, ltb-true, ltb-false}
 use lib.Dec.{eqb, ltb}
 use lib.ListN.{length, set, length-set, replicate}
 use lib.Seq.{get_or-set_same, get_or-set_other, ext_get_or}
@@ -91,7 +91,7 @@ module _ (M : noninterference.Machine) (c : Closed M (λ s. s < M.states)) (insi
     depths_same =
         tabulated 0 BOXES _ depths h.depths_long
         (λ u l. by_test (ltb u M.boxes) (λ e. rw e (h.depth u (ltb-true _ _ e) ∙ depth_same u))
-        (λ e. rw e (h.level u (ltb_false _ _ e))))
+        (λ e. rw e (h.level u (ltb-false _ _ e))))
 
     pub arrows_same : arrows_upto (wanted_in table) M.boxes M.boxes ≡ needed_list M
     arrows_same = upto_same _ _ M.boxes M.boxes (λ v u lv lu. h.wanted v u (omega arith) lu ∙ needed_same v u)

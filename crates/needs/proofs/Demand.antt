@@ -6,7 +6,7 @@ use mathlib.Core.Bool.{true}
 use mathlib.Core.List.{List}
 use Prim.Native.Nat.{ℕ, ◌*◌, ◌<◌, ◌≤◌}
 use native.Mathlib.Omega.{arith}
-use borrow.Author.Tests.{lt-ltb, le-ltb, ltb-true, ltb_false}
+use borrow.Author.Tests.{lt-ltb, le-ltb, ltb-true, ltb-false}
 use lib.Dec.{ltb}
 use lib.ListN.{length, get_or}
 use lib.Seq.{take_at, drop_at}
@@ -50,7 +50,7 @@ module _ (M : noninterference.Machine) (c : Closed M (λ s. s < M.states)) (w : 
   depth_beyond u l =
       by_test (ltb u BOXES)
       (λ e. tabulate_at BOXES (λ u. choose (ltb u M.boxes) (depth_of M u) 0) u 0 (ltb-true _ _ e) ∙ rw (le-ltb _ _ l))
-      (λ e. sym (beyond (depths_of M) u 0 (rw (length_tabulate BOXES (λ u. choose (ltb u M.boxes) (depth_of M u) 0)) (ltb_false _ _ e))))
+      (λ e. sym (beyond (depths_of M) u 0 (rw (length_tabulate BOXES (λ u. choose (ltb u M.boxes) (depth_of M u) 0)) (ltb-false _ _ e))))
 
   is_depth : (u : ℕ) → u < M.boxes → Depth M u (get_or (depths_of M) u 0)
   is_depth u l = subst (Depth M u) (sym (depth_at u l)) (depth_computed M u (reached M) (reach M c))

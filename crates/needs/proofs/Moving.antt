@@ -9,7 +9,7 @@ use native.Mathlib.Nat.{not-suc-le-zero}
 use native.Mathlib.Numerals.{add-one}
 use native.Mathlib.Omega.{arith}
 use borrow.Author.Count.{below_more}
-use borrow.Author.Tests.{eq-eqb, eqb-true, lt-ltb, le-ltb, ltb-true, ltb_false}
+use borrow.Author.Tests.{eq-eqb, eqb-true, lt-ltb, le-ltb, ltb-true, ltb-false}
 use lib.Dec.{eqb, ltb}
 use lib.ListN.{length, set, length-set}
 use lib.Seq.{get_or-set_same, get_or-set_other}
@@ -97,7 +97,7 @@ pub kept_first : {states actions : ℕ} {next c lead : List ℕ} {inside marks :
 kept_first {lead = lead} {s = s} w h m l =
     by_test (ltb (entry lead s) STATES)
     (λ e. let q = h.known s (omega arith) (ltb-true (entry lead s) STATES e) in absurd (omega (arith, q.below, q.class, w.upto q.at (omega (arith, q.below)))))
-    (λ e. kept_old lead s refl (ltb_false (entry lead s) STATES e))
+    (λ e. kept_old lead s refl (ltb-false (entry lead s) STATES e))
 
 -- ---- the list is filled while the numbers are
 pub moved_none : {c d lead list : List ℕ} → length list ≡ STATES → MovedTo 0 c d lead list 0

@@ -10,7 +10,7 @@ use native.Mathlib.Omega.{arith}
 use native.Mathlib.Decide.{ℕ_discrete}
 use lib.Dec.{ltb}
 use lib.ListN.{get_or}
-use borrow.Author.Tests.{eqb-true, eqb-false, eq-eqb, ne_eqb, ltb-true, lt-ltb, not_true}
+use borrow.Author.Tests.{eqb-true, eqb-false, eq-eqb, ne_eqb, ltb-true, lt-ltb, not-true}
 use Rattle.laws.specs.Choice.{or_else}
 use Rattle.laws.specs.Order.{Earlier}
 use Rattle.laws.proofs.Tests.{both_of, both_true, without_of, without_true}
@@ -121,7 +121,7 @@ module _ (kind : Kind) (M : Machine) (counts : ℕ → Bool) (S : States) (h_s :
   respect_bad : (u a s : ℕ) → BadRespect (u ∷ a ∷ s ∷ []) ↔ Broken (respect u a s)
   unfolding moves
   respect_bad u a s = (
-    λ b. (b.0, b.1.0, (h_s s).1 (b.1.1.1.0, b.1.1.1.1.0), not_true _ b.1.1.0, eqb-false _ _ (not_true _ b.1.1.1.1.1)),
+    λ b. (b.0, b.1.0, (h_s s).1 (b.1.1.1.0, b.1.1.1.1.0), not-true _ b.1.1.0, eqb-false _ _ (not-true _ b.1.1.1.1.1)),
     λ b. let hs = (h_s s).0 b.2 in (b.0, (b.1, (ap not b.3, (hs.0, (hs.1, ap not (ne_eqb _ _ b.4)))))),
   )
 

@@ -7,7 +7,7 @@ use mathlib.Core.List.{List}
 use Prim.Native.Nat.{ℕ, ◌-◌, ◌*◌, ◌<◌, ◌≤◌}
 use native.Mathlib.Nat.{le_refl}
 use lib.ListN.{length}
-use borrow.Author.Tests.{eqb-true, eq-eqb, ne_eqb, not_true}
+use borrow.Author.Tests.{eqb-true, eq-eqb, ne_eqb, not-true}
 use Rattle.laws.proofs.Tests.{not_both, both_of, both_true, without_of, without_true, false_of}
 use Rattle.laws.proofs.Range.{some_at, some_of}
 use Rattle.noninterference.specs.Machine.{Machine, Closed}
@@ -32,7 +32,7 @@ module _ (M : Machine) (inside : ℕ → Bool) (w : Reach M inside) (k v u : ℕ
       let g = some_at M.actions _ i.1 in
       let t = without_true _ _ g.2 in
       record {
-        other = λ e. not_both (eq-eqb v u e) (not_true _ b.0);
+        other = λ e. not_both (eq-eqb v u e) (not-true _ b.0);
         state = f.0;
         action = g.0;
         reachable = w.right f.0 f.1 i.0;

@@ -5,7 +5,7 @@ use mathlib.Core.Logic.{⊎_elim}
 use mathlib.Core.Bool.{Bool, true, false, not}
 use Prim.Native.Nat.{ℕ, zero, suc, ◌<◌, ◌≤◌}
 use native.Mathlib.Omega.{arith}
-use borrow.Author.Tests.{eqb-true, eq-eqb, not_true, not-false}
+use borrow.Author.Tests.{eqb-true, eq-eqb, not-true, not-false}
 use Rattle.laws.specs.Choice.{brings}
 use Rattle.laws.specs.Range.{every, count}
 use Rattle.laws.proofs.Tests.{by_test, agree, both_of, both_true, either_left, either_right, either_true, brings_at, brings_false}
@@ -75,7 +75,7 @@ module _ (M : Machine) (c : Closed M (λ s. s < M.states)) where
   some_last : (j : ℕ) × (j < M.states) × (last j ≡ true)
   some_last =
       by_test (every M.states (λ j. not (last j)))
-      (λ e. let a : M.states < count M.states (reached_by M M.states) = rounds M.states (λ j l. not_true _ (every_at M.states _ e j l)) in
+      (λ e. let a : M.states < count M.states (reached_by M M.states) = rounds M.states (λ j l. not-true _ (every_at M.states _ e j l)) in
       let b : count M.states (reached_by M M.states) ≤ M.states = count_le M.states (reached_by M M.states) in
       absurd (omega arith))
       (λ e. let f = every_fails M.states _ e in (f.0, f.1, not-false _ f.2))

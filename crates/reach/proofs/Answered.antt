@@ -6,7 +6,7 @@ use mathlib.Core.Bool.{Bool, true, false}
 use mathlib.Core.List.{List, []}
 use Prim.Native.Nat.{ℕ, zero, suc, ◌<◌, ◌≤◌}
 use native.Mathlib.Omega.{arith}
-use borrow.Author.Tests.{eq-eqb, ne_eqb, lt-ltb, ltb-true, ltb_false}
+use borrow.Author.Tests.{eq-eqb, ne_eqb, lt-ltb, ltb-true, ltb-false}
 use lib.Dec.{eqb, ltb}
 use lib.ListN.{length, replicate, get_or-replicate}
 use Rattle.laws.specs.Choice.{both, either, choose}
@@ -103,7 +103,7 @@ module _ (m : Machine) (next outputs : List ℕ) (e : length next ≡ NEXT_ENTRI
   flags_small s h =
       by_test (ltb s STATES)
       (λ l. ltb-true _ _ (both_true _ _ (sym (flag_says s (ltb-true _ _ l)) ∙ h)).0)
-      (λ l. not_both h (sym (beyond (flags_of m next) s false (rw flags_long (ltb_false _ _ l)))))
+      (λ l. not_both h (sym (beyond (flags_of m next) s false (rw flags_long (ltb-false _ _ l)))))
     where
       flags_long : length (flags_of m next) ≡ STATES
       flags_long = length_flags m next

@@ -8,7 +8,7 @@ use Prim.Native.Nat.{ℕ, ◌+◌, ◌*◌, ◌<◌, ◌≤◌}
 use native.Mathlib.Nat.{not-suc-le-zero, le_trans}
 use native.Mathlib.Omega.{arith}
 use borrow.Author.Count.{below_more}
-use borrow.Author.Tests.{eqb-true, eqb-false, ltb-true, ltb_false}
+use borrow.Author.Tests.{eqb-true, eqb-false, ltb-true, ltb-false}
 use lib.Dec.{eqb, ltb}
 use lib.ListN.{length, get_or, set, length-set, replicate, length-replicate, get_or-replicate, get_or-eq_default}
 use lib.Seq.{get_or-set_same, get_or-set_other}
@@ -187,7 +187,7 @@ module _ {m : Machine} {next : List ℕ} (g : GoodTable m next) where
       empty : (s : ℕ) → flag_at (replicate STATES false) s ≡ false
       empty s = by_test (ltb s STATES)
           (λ q. get_or-replicate {A = Bool} STATES s false false (ltb-true s STATES q))
-          (λ q. get_or-eq_default (replicate STATES false) false {n = s} (rw (length-replicate {A = Bool} STATES false) (ltb_false s STATES q)))
+          (λ q. get_or-eq_default (replicate STATES false) false {n = s} (rw (length-replicate {A = Bool} STATES false) (ltb-false s STATES q)))
 
       only : (s : ℕ) → flag_at (set (replicate STATES false) m.sizes.start true) s ≡ true → s ≡ m.sizes.start
       only s q =

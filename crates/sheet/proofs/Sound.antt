@@ -7,7 +7,7 @@ use mathlib.Core.Logic.{inl, inr, ⊎_elim}
 use native.Mathlib.Omega.{arith}
 use native.Mathlib.Decide.{dec_lt}
 use native.Mathlib.Nat.{mul-le-mul}
-use borrow.Author.Tests.{ltb-true, ltb_false, lt-ltb, eq-eqb, eqb-true}
+use borrow.Author.Tests.{ltb-true, ltb-false, lt-ltb, eq-eqb, eqb-true}
 use lib.ListN.{length, get_or, take, set, replicate, length-set, length-replicate, get_or-replicate, get_or-eq_default}
 use lib.Seq.{get_or-set_same, get_or-set_other, get_or-take, length-take-le}
 use Rattle.laws.specs.Choice.{both, either}
@@ -55,7 +55,7 @@ pub record Ids (k : ℕ) (ids : List ℕ) : Type 0 where
 
 -- an id that is not known is none of them
 unknown : (ids : List ℕ) (id : ℕ) → known ids id ≡ false → (i : ℕ) → i < length ids → get_or ids i 0 ≡ id → ⊥
-unknown ids id h i g e = omega (arith, ltb_false (position ids id) (length ids) h, before_hit id ids i g e)
+unknown ids id h i g e = omega (arith, ltb-false (position ids id) (length ids) h, before_hit id ids i g e)
 
 ids_more : (k : ℕ) (ids : List ℕ) (id : ℕ) → k < BOXES → Ids k ids → id ≤ LARGEST_ID → known (take k ids) id ≡ false → Ids (suc k) (set ids k id)
 ids_more k ids id h p s f = record { filled = filled_more id h s p.filled; apart = apart }

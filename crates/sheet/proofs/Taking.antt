@@ -4,7 +4,7 @@ use mathlib.Core.Path.{◌≡◌, refl, ◌∙◌}
 use mathlib.Core.List.{List}
 use mathlib.Core.Bool.{Bool, true, false, cond}
 use native.Mathlib.Omega.{arith}
-use borrow.Author.Tests.{ltb-true, ltb_false, lt-ltb, le-ltb}
+use borrow.Author.Tests.{ltb-true, ltb-false, lt-ltb, le-ltb}
 use lib.ListN.{length, take, drop}
 use lib.Dec.{ltb}
 use Rattle.text.specs.Lines.{end_of, line_at}
@@ -53,4 +53,4 @@ module _ (f : List ℕ → Record) (t : List ℕ) (at : ℕ) where
           → cond b' (on_record r (λ a b c d. Took a b c d (end_of 10 t at + 1)) Stopped) (Stopped 11) ≡ Stopped x → StoppedFrom x
       go true q (Numbers a' b' c' d') e h = let z : ◌≡◌ {A = ℕ} 0 1 = cc in absurd (omega arith)
       go true q (Not y) e h = bad {x = x} (ltb-true _ _ q) (e ∙ cc)
-      go false q r e h = let z : 11 ≡ x = cc in rw (← z) (ended (ltb_false _ _ q))
+      go false q r e h = let z : 11 ≡ x = cc in rw (← z) (ended (ltb-false _ _ q))
