@@ -1,1 +1,2 @@
 // The twelve proved cases, one table and one statement. No functions.
+#![tactic(auto)]

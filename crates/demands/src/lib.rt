@@ -1,1 +1,2 @@
 // The three demands, on one page (specs/Demands), and their proofs. No functions.
+#![tactic(auto)]

@@ -1,4 +1,6 @@
 // Answers a stream of requests for the public calls, so that they can be compared with another program's.
+#![tactic(auto)]
+
 mod calls;
 mod put;
 mod take;

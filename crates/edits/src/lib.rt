@@ -1,4 +1,6 @@
 // Edits of the list of boxes that a host lends, with undo: add, delete, draw, erase.
+#![tactic(auto)]
+
 mod allowed;
 mod bits;
 mod boxes;

@@ -1,1 +1,2 @@
 // General facts: searches, tests over ranges, counting, lists. No functions.
+#![tactic(auto)]

@@ -1,4 +1,6 @@
 // A model as values and three lent tables, and the limits that every crate goes by.
+#![tactic(auto)]
+
 ghost use Rattle.std.specs.Prelude.{◌≡◌, not, ◌+◌, ◌*◌, ◌^◌, ◌<◌, ◌≤◌, eqb, ltb, get_or, length};
 ghost use Rattle.laws.specs.Range.{every};
 ghost use Rattle.laws.specs.Sets.{has};

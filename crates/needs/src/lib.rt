@@ -1,4 +1,6 @@
 // The arrows that a machine needs, whatever was drawn, and how long a run each box needs to tell apart all that it can.
+#![tactic(auto)]
+
 mod arrows;
 mod changes;
 mod numbers;

@@ -1,4 +1,6 @@
 // Purged runs, plain and intransitive.
+#![tactic(auto)]
+
 ghost use Rattle.std.specs.Prelude.{◌≡◌, true, false, cond, ◌++◌, ℕ, ◌+◌, ◌-◌, ◌*◌, ◌<◌, length, get_or, replicate};
 ghost use Rattle.model.specs.Limits.{BOXES};
 ghost use Rattle.purge.specs.Purged.{names_actions, kept_of, purge_result, written, purged_of, Added, Askable};

@@ -1,4 +1,6 @@
 // The reachable states of a machine: those in which some run from the start ends.
+#![tactic(auto)]
+
 ghost use Rattle.std.specs.Prelude.{◌≡◌, false, ◌+◌, ◌<◌, replicate};
 ghost use Rattle.model.specs.Limits.{STATES};
 ghost use Rattle.model.specs.Good.{GoodTable};

@@ -1,4 +1,6 @@
 // The register machine as fixed tables.
+#![tactic(auto)]
+
 ghost use Rattle.std.specs.Prelude.{◌≡◌, ◌++◌, ◌≤◌, length, drop};
 ghost use Rattle.register.specs.Register as specs;
 

@@ -1,4 +1,6 @@
 // The reader of a sheet, and the label call.
+#![tactic(auto)]
+
 mod labels;
 mod lines;
 mod phases;

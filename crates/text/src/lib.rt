@@ -1,4 +1,6 @@
 // Bytes: decimal numbers both ways, lines and fields, and writing into a lent tail. Every function takes anything.
+#![tactic(auto)]
+
 ghost use Rattle.std.specs.Prelude.{◌≡◌, ◌<◌, [], slice_index_or};
 ghost use Rattle.text.specs.Number.{digit, decimal};
 ghost use Rattle.text.specs.Lines.{fields, same, end_of, line_from, number_from, more_from};

@@ -1,4 +1,6 @@
 // Reads a sheet from standard input and writes the verdict on it to standard output.
+#![tactic(auto)]
+
 ghost use Rattle.std.specs.Prelude.{length};
 ghost use Rattle.verdict.specs.Input.{Within};
 

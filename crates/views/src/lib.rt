@@ -1,4 +1,6 @@
 // The judge: whether views meet output, respect and step, and where they first do not.
+#![tactic(auto)]
+
 ghost use Rattle.std.specs.Prelude.{◌≡◌, [], ◌+◌, ◌*◌, ◌<◌, ◌≤◌, get_or, length};
 ghost use Rattle.noninterference.specs.Purge.{intransitive};
 ghost use Rattle.noninterference.specs.Judged.{first_output, first_respect, first_step};

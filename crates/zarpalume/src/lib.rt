@@ -1,4 +1,6 @@
 // The verdict on a sheet, and the one call for a host.
+#![tactic(auto)]
+
 mod editing;
 mod lines;
 

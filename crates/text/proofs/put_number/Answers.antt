@@ -3,14 +3,8 @@ use Rattle.std.proofs.Common.{◌≡◌, ℕ, zero, suc, ◌+◌, ◌-◌, ◌/�
 use lib.Seq.{set_split}
 use Rattle.text.specs.Number.{decimal, digits}
 use Rattle.text.proofs.Digits.{digits_one, digits_more}
-use Rattle.text.proofs.put_number.Statement.{statement}
-use Rattle.text.proofs.put_number.Tie as tie
-
-record At (value : ℕ) (ds : List ℕ) (left i : ℕ) : Type 0 where
-  within : i ≤ 9
-  room : length ds ≡ 10
-  short : left < 10 ^ suc i
-  rest : digits (suc i) left ++ drop (suc i) ds ≡ decimal value
+use Rattle.text.proofs.put_number.Invariants.{At}
+use Rattle.text.proofs.put_number.Goals as goal
 
 -- what stands from a place on, after a byte is set there
 drop-set : (ds : List ℕ) (i v : ℕ) → i < length ds → drop i (set ds i v) ≡ v ∷ drop (suc i) ds
@@ -41,39 +35,17 @@ module _ {value : ℕ} {ds : List ℕ} {left i : ℕ} (p : At value ds left i) w
           rest = rw (e, drop-set ds i (48 + left % 10) (omega (arith, p.room, p.within))) (sym (simp append_assoc) ∙ (rw (digits_more i left h) at p.rest));
         }
 
-abbrev invariant-loop : tie.invariant-loop
-invariant-loop tail value digits₀ left₀ i₀ digits left i = At value digits left i
+pub loop-left-init : goal.loop-left-init
+loop-left-init c = record { within = omega arith; room = refl; short = omega arith; rest = append-nil _ }
 
-abbrev decreases-loop : tie.decreases-loop
-decreases-loop tail value digits₀ left₀ i₀ digits left i = left
+pub overflow_sub-i : goal.overflow_sub-i
+overflow_sub-i c = omega (arith, some c.loop-left.invariant (omega arith))
 
-loop-holds : tie.Need-loop-init invariant-loop decreases-loop
-loop-holds c = record { within = omega arith; room = refl; short = omega arith; rest = append-nil _ }
+pub loop-left-preserved : goal.loop-left-preserved
+loop-left-preserved c = again c.loop-left.invariant (omega arith)
 
-sub-i : tie.Need-overflow-sub-i invariant-loop decreases-loop
-sub-i c = omega (arith, some c.before.loop.invariant (omega arith))
+pub slice_bounds-put_bytes-end : goal.slice_bounds-put_bytes-end
+slice_bounds-put_bytes-end c = simp length-set (omega (arith, c.loop-left.invariant.room))
 
-loop-again : tie.Need-loop-preserved invariant-loop decreases-loop
-loop-again c = again c.before.loop.invariant (omega arith)
-
-part-put-bytes-end : tie.Need-slice-bounds-put-bytes-end invariant-loop decreases-loop
-part-put-bytes-end c = simp length-set (omega (arith, c.before.before.before.loop.invariant.room))
-
-returns : tie.Need-returns invariant-loop decreases-loop
-returns c = rw (← last c.before.before.before.before.before.before.before.loop.invariant (omega arith)) c.before.before.put-bytes.ensures
-
-pub put_number_spec : {M : Type 1} → statement M
-put_number_spec =
-    tie.close
-    (tie.spec
-    invariant-loop
-    decreases-loop
-    loop-holds
-    (λ c. search rules) (λ c. search rules) (λ c. search rules)
-    sub-i
-    (λ c. search rules)
-    loop-again
-    (λ c. search rules) (λ c. search rules) (λ c. search rules) (λ c. search rules) (λ c. search rules)
-    part-put-bytes-end
-    (λ c κs. search rules) (λ c. search rules)
-    returns)
+pub returns : goal.returns
+returns c = rw (← last c.loop-left.invariant (omega arith)) c.put_bytes.ensures

@@ -3,13 +3,8 @@ use Rattle.std.proofs.Common.{◌≡◌, ℕ, ◌+◌, ◌-◌, ◌<◌, ◌≤�
 use borrow.Author.Tests.{eqb-false}
 use Rattle.text.specs.Lines.{fields, field_from, same}
 use Rattle.text.proofs.Parts.{at, field_here, field_past, field_over, first_field, field_length, same_length}
-use Rattle.text.proofs.starts.Statement.{statement}
-use Rattle.text.proofs.starts.Tie as tie
-
-record At (l w : List ℕ) (i : ℕ) : Type 0 where
-  room : length w ≤ length l
-  within : i ≤ length w
-  rest : same (field_from l i) (drop i w) ≡ same (get_or (fields l) 0 []) w
+use Rattle.text.proofs.starts.Invariants.{At}
+use Rattle.text.proofs.starts.Goals as goal
 
 by-tab {ℓ} : {X : Type ℓ} (x : ℕ) → (x ≡ 9 → X) → ((x ≡ 9 → ⊥) → X) → X
 by-tab {X = X} x f g = go (eqb x 9) refl
@@ -55,47 +50,23 @@ module _ {l w : List ℕ} where
       unfolding same
       all g = sym (rw (field_over l i g, drop_of_length-le w h)) ∙ p.rest
 
-abbrev invariant-loop : tie.invariant-loop
-invariant-loop line word i₀ i = At line word i
+pub returns-then-line-word : goal.returns-then-line-word
+returns-then-line-word c = too_short _ _ c.if-line-word.true
 
-abbrev decreases-loop : tie.decreases-loop
-decreases-loop line word i₀ i = length word - i
+pub loop-i-init : goal.loop-i-init
+loop-i-init c = begun c.if-line-word.false
 
-returns : tie.Need-returns invariant-loop decreases-loop
-returns c = too_short _ _ c.if1.true
+pub returns-then-line-i : goal.returns-then-line-i
+returns-then-line-i c = other c.loop-i.invariant (omega arith) c.if-line-i.true
 
-loop-holds : tie.Need-loop-init invariant-loop decreases-loop
-loop-holds c = begun c.if1.false
+pub returns-then-line-i-eq9 : goal.returns-then-line-i-eq9
+returns-then-line-i-eq9 c = tab c.loop-i.invariant (omega arith) c.if-line-i-eq9.true
 
-returns-2 : tie.Need-returns-2 invariant-loop decreases-loop
-returns-2 c = other c.before.before.before.before.loop.invariant (omega arith) c.if2.true
+pub loop-i-preserved : goal.loop-i-preserved
+loop-i-preserved c = past c.loop-i.invariant (omega arith) c.if-line-i.false c.if-line-i-eq9.false
 
-returns-3 : tie.Need-returns-3 invariant-loop decreases-loop
-returns-3 c = tab c.before.before.before.before.before.before.loop.invariant (omega arith) c.if3.true
+pub returns-then-i-line : goal.returns-then-i-line
+returns-then-i-line c = ended c.loop-i.invariant (omega arith) (omega arith)
 
-loop-again : tie.Need-loop-preserved invariant-loop decreases-loop
-loop-again c = past c.before.before.before.before.before.before.loop.invariant (omega arith) c.before.before.if2.false c.if3.false
-
-returns-4 : tie.Need-returns-4 invariant-loop decreases-loop
-returns-4 c = ended c.before.before.before.loop.invariant (omega arith) (omega arith)
-
-returns-5 : tie.Need-returns-5 invariant-loop decreases-loop
-returns-5 c = all c.before.before.loop.invariant (omega arith) (omega arith)
-
-pub starts_spec : {M : Type 1} → statement M
-starts_spec =
-    tie.close
-    (tie.spec
-    invariant-loop
-    decreases-loop
-    returns
-    loop-holds
-    (λ c. search rules) (λ c. search rules)
-    returns-2
-    (λ c. search rules)
-    returns-3
-    (λ c. search rules) (λ c. search rules)
-    loop-again
-    (λ c. search rules)
-    returns-4
-    returns-5)
+pub returns : goal.returns
+returns c = all c.loop-i.invariant (omega arith) (omega arith)
