@@ -30,7 +30,7 @@ pub const DROP: u32 = 6;
 
 // A box, with live 1; or no box, all zero. Bit u of arrows: an arrow to the box at position u.
 #[repr(C)]
-#[derive(Drop)]
+#[derive(Clone, Copy)]
 pub struct BoxRecord {
     pub id: u32,
     pub live: u32,
@@ -38,7 +38,7 @@ pub struct BoxRecord {
 }
 
 // An edit that was done, with what undoes it. What a kind doesn't use is zero.
-#[derive(Drop)]
+#[derive(Clone, Copy)]
 pub struct Entry {
     pub kind: u32,
     pub at: u32,
@@ -49,21 +49,21 @@ pub struct Entry {
 }
 
 // The entry that does what is asked for, or a refusal's number and none.
-#[derive(Drop)]
+#[derive(Clone, Copy)]
 pub struct Plan {
     pub number: u32,
     pub entry: Entry,
 }
 
 // A call's number, 0 or the refusal's, and the list afterwards.
-#[derive(Drop)]
+#[derive(Clone, Copy)]
 pub struct Answer {
     pub number: u32,
     pub list: [BoxRecord; model::BOXES],
 }
 
 // The records by value.
-#[derive(Drop)]
+#[derive(Clone, Copy)]
 pub struct Loaded {
     pub list: [BoxRecord; model::BOXES],
 }

@@ -52,14 +52,14 @@ pub const EDITS: usize = 32;
 pub const EDIT_WORDS: usize = 6 * EDITS;
 
 // The kind of purge: by the arrows into one box, or through the boxes between.
-#[derive(Drop)]
+#[derive(Clone, Copy)]
 pub enum Kind {
     Plain,
     Intransitive,
 }
 
 // How many states, actions and boxes there are, and the state that a run starts in.
-#[derive(Drop)]
+#[derive(Clone, Copy)]
 pub struct Sizes {
     pub states: usize,
     pub actions: usize,
@@ -68,14 +68,14 @@ pub struct Sizes {
 }
 
 // A machine: its sizes, and for each action the position of its box.
-#[derive(Drop)]
+#[derive(Clone, Copy)]
 pub struct Machine {
     pub sizes: Sizes,
     pub owners: [u8; ACTIONS],
 }
 
 // A machine with the boxes' ids and the drawn arrows: bit u of row v says that an arrow leads from v to u.
-#[derive(Drop)]
+#[derive(Clone, Copy)]
 pub struct Model {
     pub machine: Machine,
     pub ids: [u32; BOXES],

@@ -31,21 +31,21 @@ use reach::Set;
 pub(crate) const STATE_PAIRS: usize = STATES * STATES;
 
 // What the call found: how many pairs stand on the list, and how many states are reachable.
-#[derive(Drop)]
+#[derive(Clone, Copy)]
 pub enum Outcome {
     Found { count: usize, reach: usize },
     Refused { number: usize, line: usize },
 }
 
 // The depths are 0 beyond the last box, and where the call is refused.
-#[derive(Drop)]
+#[derive(Clone, Copy)]
 pub struct Needs {
     pub outcome: Outcome,
     pub depths: [usize; BOXES],
 }
 
 // The classes that no further round splits, and the rounds that split something.
-#[derive(Drop)]
+#[derive(Clone, Copy)]
 struct Refinement {
     classes: [u8; STATES],
     rounds: usize,
@@ -110,7 +110,7 @@ fn refine(
 }
 
 // The needed arrows as flags, source * BOXES + target, self-arrows among them; and the depths.
-#[derive(Drop)]
+#[derive(Clone, Copy)]
 struct Sorted {
     table: [bool; ARROWS],
     depths: [usize; BOXES],

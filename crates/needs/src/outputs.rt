@@ -13,7 +13,7 @@ use crate::starts::{SLOTS, start_of};
 use model::{ACTIONS, STATES};
 
 // The actions of a box, the first `count` of the list.
-#[derive(Drop)]
+#[derive(Clone, Copy)]
 pub(crate) struct Own {
     pub(crate) list: [u8; ACTIONS],
     pub(crate) count: usize,

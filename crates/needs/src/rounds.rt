@@ -259,7 +259,7 @@ pub(crate) fn still(
 }
 
 // The class numbers of the next round, whether each state that counts has its old one, and the states that moved out of the kept part of their class: the first `count` of the list, unless that is full.
-#[derive(Drop)]
+#[derive(Clone, Copy)]
 pub(crate) struct Rounded {
     pub(crate) classes: [u8; STATES],
     pub(crate) same: bool,

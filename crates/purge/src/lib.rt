@@ -10,7 +10,7 @@ ghost use Rattle.purge.specs.Sets.{touching, marked, touches, present};
 
 use model::{Kind, Model};
 
-#[derive(Drop)]
+#[derive(Clone, Copy)]
 pub enum Answer {
     Kept { count: usize },
     Refused { number: usize, line: usize },

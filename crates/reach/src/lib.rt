@@ -11,19 +11,19 @@ ghost use Rattle.reach.specs.Answered.{outcome_of, flags_of};
 use model::{Machine, NEXT_ENTRIES, STATES};
 
 // A set of states. Whoever holds one reads it by `contains` and `count` only.
-#[derive(Drop)]
+#[derive(Clone, Copy)]
 pub struct Set {
     flags: [bool; STATES],
 }
 
-#[derive(Drop)]
+#[derive(Clone, Copy)]
 pub enum Outcome {
     Found,
     Refused { number: usize, line: usize },
 }
 
 // The set is empty where the call is refused.
-#[derive(Drop)]
+#[derive(Clone, Copy)]
 pub struct Answer {
     pub outcome: Outcome,
     pub set: Set,

@@ -17,14 +17,14 @@ ghost use Rattle.sheet.specs.Label.{label, labelled};
 use model::Sizes;
 
 // The numbers of a record, 0 beyond its count; or the number of its refusal.
-#[derive(Drop)]
+#[derive(Clone, Copy)]
 pub enum Record {
     Numbers(u32, u32, u32, u32),
     Not(u8),
 }
 
 // The line that is due.
-#[derive(Drop)]
+#[derive(Clone, Copy)]
 pub enum Due {
     Sheet,
     Box,
@@ -41,7 +41,7 @@ pub enum Due {
 }
 
 // What a line says of arrows: one, or two; it is refused; or it is another line.
-#[derive(Drop)]
+#[derive(Clone, Copy)]
 pub enum Flow {
     One(u32, u32),
     Two(u32, u32),
@@ -50,7 +50,7 @@ pub enum Flow {
 }
 
 // What the line at a place says of arrows, with the place after it.
-#[derive(Drop)]
+#[derive(Clone, Copy)]
 pub enum Arrow {
     One(u32, u32, usize),
     Two(u32, u32, usize),
@@ -59,28 +59,28 @@ pub enum Arrow {
 }
 
 // A record with the place after its line; or the number of a refusal.
-#[derive(Drop)]
+#[derive(Clone, Copy)]
 pub enum Taken {
     Took(u32, u32, u32, u32, usize),
     Stopped(u8),
 }
 
 // A number, with the place behind the byte that ends it; or something else stands there.
-#[derive(Drop)]
+#[derive(Clone, Copy)]
 pub enum Digits {
     Read(u32, usize),
     Other,
 }
 
 // What the reader says: the sizes of a model; or a refusal.
-#[derive(Drop)]
+#[derive(Clone, Copy)]
 pub enum Answer {
     Model(Sizes),
     Refused { number: u8, line: usize },
 }
 
 // The answer, with the ids, the positions of the actions' boxes, and the arrows beside it.
-#[derive(Drop)]
+#[derive(Clone, Copy)]
 pub struct Sheet {
     pub answer: Answer,
     pub ids: [u32; model::BOXES],
@@ -89,49 +89,49 @@ pub struct Sheet {
 }
 
 // A part of a text, from its start to its end.
-#[derive(Drop)]
+#[derive(Clone, Copy)]
 pub struct Place {
     pub start: usize,
     pub end: usize,
 }
 
 // Where a label stands; or a refusal.
-#[derive(Drop)]
+#[derive(Clone, Copy)]
 pub enum Found {
     At(usize, usize),
     Refused(u8, usize),
 }
 
 // How a run of lines ends: where the next line starts, with its number; or with a refusal.
-#[derive(Drop)]
+#[derive(Clone, Copy)]
 pub enum Phase {
     Done { at: usize, line: usize },
     Refused { number: u8, line: usize },
 }
 
 // The `box` lines, with the ids that they give.
-#[derive(Drop)]
+#[derive(Clone, Copy)]
 pub struct Boxes {
     pub phase: Phase,
     pub ids: [u32; model::BOXES],
 }
 
 // The `act` lines, with the positions of the actions' boxes.
-#[derive(Drop)]
+#[derive(Clone, Copy)]
 pub struct Acts {
     pub phase: Phase,
     pub owners: [u8; model::ACTIONS],
 }
 
 // The `flow` and `both` lines, with the arrows.
-#[derive(Drop)]
+#[derive(Clone, Copy)]
 pub struct Flows {
     pub phase: Phase,
     pub arrows: [u32; model::BOXES],
 }
 
 // All lines after the `sheet` line, with what they give beside the tables.
-#[derive(Drop)]
+#[derive(Clone, Copy)]
 pub struct Body {
     pub phase: Phase,
     pub ids: [u32; model::BOXES],

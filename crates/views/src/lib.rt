@@ -16,7 +16,7 @@ mod guards; // what spares the loops over pairs
 use model::{Machine, Model};
 
 // Accepted; the place at which a condition is first broken; or a refusal. A position is a box's.
-#[derive(Drop)]
+#[derive(Clone, Copy)]
 pub enum Judgement {
     Accepted,
     Output {

@@ -1,0 +1,17 @@
+-- `model::drawing_fits` meets its contract. Assumes nothing.
+use Rattle.laws.proofs.Tests.{chain, told}
+use Rattle.model.specs.Refused.{drawing_fits}
+use borrow.Author.Rules.{rules}
+use Rattle.model.proofs.drawing_fits.Goals as goal
+
+pub returns-then-arrows_fit : goal.returns-then-arrows_fit
+unfolding drawing_fits
+returns-then-arrows_fit c = search (chain, told) depth 9
+
+pub returns-else-arrows_fit : goal.returns-else-arrows_fit
+unfolding drawing_fits
+returns-else-arrows_fit c = search (chain, told) depth 9
+
+pub returns-else-ids_fit : goal.returns-else-ids_fit
+unfolding drawing_fits
+returns-else-ids_fit c = search (chain, told) depth 9

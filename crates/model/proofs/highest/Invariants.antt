@@ -1,0 +1,15 @@
+-- `model::highest` meets its contract. Assumes nothing.
+-- Here `c3` is the place three before `c`.
+use Prim.Native.Nat.{◌≤◌, ◌-◌}
+use native.Mathlib.Omega.{arith}
+use mathlib.Core.Path.{refl}
+use borrow.Author.Rules.{rules}
+use Rattle.model.specs.Highest.{Highest}
+use Rattle.model.proofs.HighestEntry.{highest_none, highest_more, highest_all}
+use Rattle.model.proofs.highest.Given as goal
+
+abbrev pub invariant-entries : goal.invariant-entries
+invariant-entries l = (l.i ≤ l.n) × Highest l.i l.table l.top
+
+abbrev pub decreases-entries : goal.decreases-entries
+decreases-entries l = l.n - l.i

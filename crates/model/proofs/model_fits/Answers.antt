@@ -1,0 +1,17 @@
+-- `model::model_fits` meets its contract. Assumes nothing.
+use Rattle.laws.proofs.Tests.{chain, told}
+use Rattle.model.specs.Refused.{model_fits}
+use Rattle.model.proofs.Good.{machine_good}
+use borrow.Author.Rules.{rules}
+use Rattle.model.proofs.model_fits.Goals as goal
+
+pub drawing_fits-requires : goal.drawing_fits-requires
+drawing_fits-requires c = ((machine_good _).0 (told _ _ c.machine_fits.ensures c.if-machine_fits.true)).sizes.boxes_most
+
+pub returns-then-machine_fits : goal.returns-then-machine_fits
+unfolding model_fits
+returns-then-machine_fits c = search (chain, told) depth 9
+
+pub returns : goal.returns
+unfolding model_fits
+returns c = search (chain, told) depth 9

@@ -1,0 +1,17 @@
+-- `model::model_table_fits` meets its contract. Assumes nothing.
+use Rattle.laws.proofs.Tests.{chain, told}
+use Rattle.model.specs.Refused.{model_table_fits}
+use Rattle.model.proofs.Good.{table_good}
+use borrow.Author.Rules.{rules}
+use Rattle.model.proofs.model_table_fits.Goals as goal
+
+pub drawing_fits-requires : goal.drawing_fits-requires
+drawing_fits-requires c = ((table_good _ _).0 (told _ _ c.machine_table_fits.ensures c.if-machine_table_fits.true)).machine.sizes.boxes_most
+
+pub returns-then-machine_table_fits : goal.returns-then-machine_table_fits
+unfolding model_table_fits
+returns-then-machine_table_fits c = search (chain, told) depth 9
+
+pub returns : goal.returns
+unfolding model_table_fits
+returns c = search (chain, told) depth 9

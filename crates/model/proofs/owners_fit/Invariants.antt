@@ -1,0 +1,18 @@
+-- `model::owners_fit` meets its contract. Assumes nothing.
+-- Here `c3` is the place three before `c`.
+use Rattle.laws.proofs.Range.{held_more}
+use Rattle.laws.proofs.Loops.{read_lt, each}
+use Prim.Native.Nat.{◌≤◌, ◌-◌}
+use native.Mathlib.Omega.{arith}
+use lib.Dec.{ltb}
+use lib.ListN.{get_or}
+use borrow.Author.Rules.{rules}
+use Rattle.laws.specs.Range.{Held}
+use Rattle.model.specs.Refused.{owners_fit}
+use Rattle.model.proofs.owners_fit.Given as goal
+
+abbrev pub invariant-actions : goal.invariant-actions
+invariant-actions l = (l.a ≤ l.actions) × Held l.a (λ a. ltb (get_or l.owners a 0) l.boxes)
+
+abbrev pub decreases-actions : goal.decreases-actions
+decreases-actions l = l.actions - l.a

@@ -1,0 +1,13 @@
+-- `model::row_fits` meets its contract. Assumes nothing.
+use Prim.Native.Nat.{◌≤◌, ◌-◌, ◌+◌}
+use lib.Dec.{ltb}
+use lib.ListN.{get_or}
+use Rattle.laws.specs.Range.{Held}
+use Rattle.laws.proofs.Loops.{each}
+use Rattle.model.proofs.row_fits.Given as goal
+
+abbrev pub invariant-actions : goal.invariant-actions
+invariant-actions l = (l.a ≤ l.actions) × Held l.a (λ a. ltb (get_or l.next (l.base + a) 0) l.states)
+
+abbrev pub decreases-actions : goal.decreases-actions
+decreases-actions l = l.actions - l.a

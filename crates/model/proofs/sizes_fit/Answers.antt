@@ -1,0 +1,21 @@
+-- `model::sizes_fit` meets its contract. Assumes nothing.
+use Rattle.laws.proofs.Tests.{chain, told}
+use Rattle.model.specs.Refused.{sizes_fit}
+use borrow.Author.Rules.{rules}
+use Rattle.model.proofs.sizes_fit.Goals as goal
+
+pub returns-then-is_sized-3 : goal.returns-then-is_sized-3
+unfolding sizes_fit
+returns-then-is_sized-3 c = search (chain, told) depth 9
+
+pub returns-else-is_sized-3 : goal.returns-else-is_sized-3
+unfolding sizes_fit
+returns-else-is_sized-3 c = search (chain, told) depth 9
+
+pub returns-else-is_sized-2 : goal.returns-else-is_sized-2
+unfolding sizes_fit
+returns-else-is_sized-2 c = search (chain, told) depth 9
+
+pub returns-else-is_sized : goal.returns-else-is_sized
+unfolding sizes_fit
+returns-else-is_sized c = search (chain, told) depth 9
