@@ -11,8 +11,8 @@ invariant-arrows answer₀ to₀ rows i₀ answer to i = Unit {0}
 abbrev decreases-arrows : tie.decreases-arrows
 decreases-arrows answer₀ to₀ rows i₀ answer to i = ARROWS - i
 
-pub arrows-spec : {M : Type 1} → statement M
-arrows-spec =
+pub arrows_spec : {M : Type 1} → statement M
+arrows_spec =
     tie.close
     (tie.spec
     invariant-arrows

@@ -11,8 +11,8 @@ invariant-states answer₀ to₀ set s₀ answer to s = Unit {0}
 abbrev decreases-states : tie.decreases-states
 decreases-states answer₀ to₀ set s₀ answer to s = STATES - s
 
-pub flags-spec : {M : Type 1} → statement M
-flags-spec =
+pub flags_spec : {M : Type 1} → statement M
+flags_spec =
     tie.close
     (tie.spec
     invariant-states

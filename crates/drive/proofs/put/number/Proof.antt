@@ -10,8 +10,8 @@ invariant-bytes answer₀ to₀ value width rest₀ k₀ answer to rest k = Unit
 abbrev decreases-bytes : tie.decreases-bytes
 decreases-bytes answer₀ to₀ value width rest₀ k₀ answer to rest k = width - k
 
-pub number-spec : {M : Type 1} → statement M
-number-spec =
+pub number_spec : {M : Type 1} → statement M
+number_spec =
     tie.close
     (tie.spec
     invariant-bytes

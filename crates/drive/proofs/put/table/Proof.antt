@@ -10,8 +10,8 @@ invariant-entries answer₀ to₀ entries count i₀ answer to i = Unit {0}
 abbrev decreases-entries : tie.decreases-entries
 decreases-entries answer₀ to₀ entries count i₀ answer to i = count - i
 
-pub table-spec : {M : Type 1} → statement M
-table-spec =
+pub table_spec : {M : Type 1} → statement M
+table_spec =
     tie.close
     (tie.spec
     invariant-entries

@@ -10,8 +10,8 @@ invariant-values answer₀ to₀ list count i₀ answer to i = Unit {0}
 abbrev decreases-values : tie.decreases-values
 decreases-values answer₀ to₀ list count i₀ answer to i = count - i
 
-pub values-spec : {M : Type 1} → statement M
-values-spec =
+pub values_spec : {M : Type 1} → statement M
+values_spec =
     tie.close
     (tie.spec
     invariant-values

@@ -12,8 +12,8 @@ invariant-arrows request at₀ rows₀ i₀ at rows i = Unit {0}
 abbrev decreases-arrows : tie.decreases-arrows
 decreases-arrows request at₀ rows₀ i₀ at rows i = ARROWS - i
 
-pub arrows-spec : {M : Type 1} → statement M
-arrows-spec =
+pub arrows_spec : {M : Type 1} → statement M
+arrows_spec =
     tie.close
     (tie.spec
     invariant-arrows

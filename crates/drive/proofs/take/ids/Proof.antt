@@ -11,8 +11,8 @@ invariant-boxes request at₀ list₀ u₀ at list u = Unit {0}
 abbrev decreases-boxes : tie.decreases-boxes
 decreases-boxes request at₀ list₀ u₀ at list u = BOXES - u
 
-pub ids-spec : {M : Type 1} → statement M
-ids-spec =
+pub ids_spec : {M : Type 1} → statement M
+ids_spec =
     tie.close
     (tie.spec
     invariant-boxes

@@ -11,8 +11,8 @@ invariant-actions request at₀ list₀ a₀ at list a = Unit {0}
 abbrev decreases-actions : tie.decreases-actions
 decreases-actions request at₀ list₀ a₀ at list a = ACTIONS - a
 
-pub owners-spec : {M : Type 1} → statement M
-owners-spec =
+pub owners_spec : {M : Type 1} → statement M
+owners_spec =
     tie.close
     (tie.spec
     invariant-actions

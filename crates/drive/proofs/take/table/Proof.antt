@@ -12,8 +12,8 @@ invariant-entries request at₀ entries₀ said i₀ at entries i = length entri
 abbrev decreases-entries : tie.decreases-entries
 decreases-entries request at₀ entries₀ said i₀ at entries i = said - i
 
-pub table-spec : {M : Type 1} → statement M
-table-spec =
+pub table_spec : {M : Type 1} → statement M
+table_spec =
     tie.close
     (tie.spec
     invariant-entries

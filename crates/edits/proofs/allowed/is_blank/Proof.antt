@@ -3,8 +3,8 @@ use Rattle.laws.proofs.Tests.{chain}
 use Rattle.edits.proofs.allowed.is_blank.Statement.{statement}
 use Rattle.edits.proofs.allowed.is_blank.Tie as tie
 
-pub is-blank-spec : {M : Type 1} → statement M
-is-blank-spec =
+pub is_blank_spec : {M : Type 1} → statement M
+is_blank_spec =
     tie.close
     (tie.spec
     (λ c. search chain depth 9) (λ c. search chain depth 9) (λ c. search chain depth 9))

@@ -6,9 +6,9 @@ use borrow.Author.Rules.{rules}
 use Rattle.edits.proofs.allowed.is_made.Statement.{statement}
 use Rattle.edits.proofs.allowed.is_made.Tie as tie
 
-pub is-made-spec : {M : Type 1} → statement M
+pub is_made_spec : {M : Type 1} → statement M
 unfolding made
-is-made-spec =
+is_made_spec =
     tie.close
     (tie.spec
     (λ c κs. search rules) (λ c. search (choose_yes, choose_no, eq-eqb, ne_eqb) depth 9) (λ c κs. search rules)

@@ -3,8 +3,8 @@ use Rattle.laws.proofs.Tests.{chain}
 use Rattle.edits.proofs.allowed.made_add.Statement.{statement}
 use Rattle.edits.proofs.allowed.made_add.Tie as tie
 
-pub made-add-spec : {M : Type 1} → statement M
-made-add-spec =
+pub made_add_spec : {M : Type 1} → statement M
+made_add_spec =
     tie.close
     (tie.spec
     (λ c. search chain depth 9) (λ c. search chain depth 9) (λ c. search chain depth 9) (λ c. search chain depth 9))

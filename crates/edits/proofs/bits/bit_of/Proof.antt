@@ -7,8 +7,8 @@ use Rattle.edits.proofs.bits.bit_of.Tie as tie
 returns : tie.Need-returns
 returns c = bit_is c.args.k c.args.set
 
-pub bit-of-spec : {M : Type 1} → statement M
-bit-of-spec =
+pub bit_of_spec : {M : Type 1} → statement M
+bit_of_spec =
     tie.close
     (tie.spec
     (λ c. search rules) (λ c. search rules)

@@ -1,6 +1,6 @@
 -- `edits::bits::cut_of` meets its contract. Assumes nothing.
 use native.Mathlib.Omega.{arith}
-use Rattle.laws.proofs.Bits.{cut-is, cut_fits, power_pos}
+use Rattle.laws.proofs.Bits.{cut_is, cut_fits, power_pos}
 use borrow.Author.Rules.{rules}
 use Rattle.edits.proofs.bits.cut_of.Statement.{statement}
 use Rattle.edits.proofs.bits.cut_of.Tie as tie
@@ -18,10 +18,10 @@ add-result : tie.Need-overflow-add-result
 add-result c = record { fits = omega (arith, cut_fits c.before.args.set c.power.result) }
 
 returns : tie.Need-returns
-returns c = rw c.power.ensures (cut-is c.before.args.p c.before.args.set)
+returns c = rw c.power.ensures (cut_is c.before.args.p c.before.args.set)
 
-pub cut-of-spec : {M : Type 1} → statement M
-cut-of-spec =
+pub cut_of_spec : {M : Type 1} → statement M
+cut_of_spec =
     tie.close
     (tie.spec
     (λ c κs. search rules)

@@ -10,8 +10,8 @@ use Rattle.edits.proofs.bits.power.Tie as tie
 returns : tie.Need-returns
 returns c = rw (one-mul (2 ^ c.args.p)) (mod-eq_of_lt (omega (arith, power_small c.args.p 31 (omega arith))))
 
-pub power-spec : {M : Type 1} → statement M
-power-spec =
+pub power_spec : {M : Type 1} → statement M
+power_spec =
     tie.close
     (tie.spec
     (λ c. search rules) (λ c. search rules)

@@ -17,8 +17,8 @@ put-of-requires c κs = (omega arith, (omega (arith, c.bit-of.ensures, bit_below
 returns-2 : tie.Need-returns-2
 returns-2 c = choose_no _ (ne_eqb _ _ c.before.before.before.before.before.if1.false) (rw (c.with-arrows.ensures, c.before.Put-of.ensures, c.before.before.bit-of.ensures, c.before.before.before.before.unskip-of.ensures.0))
 
-pub back-at-spec : {M : Type 1} → statement M
-back-at-spec =
+pub back_at_spec : {M : Type 1} → statement M
+back_at_spec =
     tie.close
     (tie.spec
     returns

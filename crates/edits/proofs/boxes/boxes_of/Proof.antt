@@ -14,9 +14,9 @@ invariant-boxes list k₀ k = (k ≤ BOXES) × Held k (λ j. not (not (lives (at
 abbrev decreases-boxes : tie.decreases-boxes
 decreases-boxes list k₀ k = BOXES - k
 
-pub boxes-of-spec : {M : Type 1} → statement M
+pub boxes_of_spec : {M : Type 1} → statement M
 unfolding boxes
-boxes-of-spec =
+boxes_of_spec =
     tie.close
     (tie.spec
     invariant-boxes

@@ -4,15 +4,15 @@ use Prim.Native.Nat.{ℕ, ◌≤◌, ◌-◌}
 use native.Mathlib.Nat.{add_comm, mul_comm}
 use native.Mathlib.Omega.{arith}
 use Rattle.laws.specs.Bits.{gather}
-use Rattle.laws.proofs.Bits.{bit_below, gather-small, gather-more, power_small}
+use Rattle.laws.proofs.Bits.{bit_below, gather_small, gather_more, power_small}
 use Rattle.model.specs.Limits.{BOXES}
 use Rattle.edits.specs.Records.{at}
-use Rattle.edits.specs.Moved.{arrowInto, columnOf}
+use Rattle.edits.specs.Moved.{arrow_into, column_of}
 use Rattle.edits.proofs.boxes.column_of.Statement.{statement}
 use Rattle.edits.proofs.boxes.column_of.Tie as tie
 
 abbrev invariant-boxes : tie.invariant-boxes
-invariant-boxes list p column₀ k₀ column k = (k ≤ BOXES) × (column ≡ gather k (BOXES - k) (arrowInto list p))
+invariant-boxes list p column₀ k₀ column k = (k ≤ BOXES) × (column ≡ gather k (BOXES - k) (arrow_into list p))
 
 abbrev decreases-boxes : tie.decreases-boxes
 decreases-boxes list p column₀ k₀ column k = k
@@ -22,20 +22,20 @@ unfolding gather
 boxes-holds c = (omega arith, refl)
 
 mul-column : tie.Need-overflow-mul-column invariant-boxes decreases-boxes
-mul-column c = record { fits = omega (arith, gather-small c.before.boxes.k (BOXES - c.before.boxes.k) (arrowInto c.before.before.args.list c.before.before.args.p) (λ j. bit_below c.before.before.args.p (at c.before.before.args.list j).arrows), power_small (BOXES - c.before.boxes.k) 31 (omega arith)) }
+mul-column c = record { fits = omega (arith, gather_small c.before.boxes.k (BOXES - c.before.boxes.k) (arrow_into c.before.before.args.list c.before.before.args.p) (λ j. bit_below c.before.before.args.p (at c.before.before.args.list j).arrows), power_small (BOXES - c.before.boxes.k) 31 (omega arith)) }
 
 add-column : tie.Need-overflow-add-column invariant-boxes decreases-boxes
-add-column c = record { fits = omega (arith, gather-small c.before.before.boxes.k (BOXES - c.before.before.boxes.k) (arrowInto c.before.before.before.args.list c.before.before.before.args.p) (λ j. bit_below c.before.before.before.args.p (at c.before.before.before.args.list j).arrows), power_small (BOXES - c.before.before.boxes.k) 31 (omega arith), c.arrow-into.ensures, bit_below c.before.before.before.args.p (at c.before.before.before.args.list (c.before.before.boxes.k - 1)).arrows) }
+add-column c = record { fits = omega (arith, gather_small c.before.before.boxes.k (BOXES - c.before.before.boxes.k) (arrow_into c.before.before.before.args.list c.before.before.before.args.p) (λ j. bit_below c.before.before.before.args.p (at c.before.before.before.args.list j).arrows), power_small (BOXES - c.before.before.boxes.k) 31 (omega arith), c.arrow-into.ensures, bit_below c.before.before.before.args.p (at c.before.before.before.args.list (c.before.before.boxes.k - 1)).arrows) }
 
 boxes-again : tie.Need-boxes-preserved invariant-boxes decreases-boxes
-boxes-again c = (omega arith, rw (c.before.before.boxes.invariant.1, c.arrow-into.ensures) (add_comm _ _ ∙ rw mul_comm (gather-more BOXES c.before.before.boxes.k (arrowInto c.before.before.before.args.list c.before.before.before.args.p) (omega arith) (omega arith))))
+boxes-again c = (omega arith, rw (c.before.before.boxes.invariant.1, c.arrow-into.ensures) (add_comm _ _ ∙ rw mul_comm (gather_more BOXES c.before.before.boxes.k (arrow_into c.before.before.before.args.list c.before.before.before.args.p) (omega arith) (omega arith))))
 
 returns : tie.Need-returns invariant-boxes decreases-boxes
-unfolding columnOf
-returns c = let e : c.before.boxes.k ≡ 0 = omega arith in c.before.boxes.invariant.1 ∙ ap (λ (m : ℕ). gather m (BOXES - m) (arrowInto c.before.before.args.list c.before.before.args.p)) e
+unfolding column_of
+returns c = let e : c.before.boxes.k ≡ 0 = omega arith in c.before.boxes.invariant.1 ∙ ap (λ (m : ℕ). gather m (BOXES - m) (arrow_into c.before.before.args.list c.before.before.args.p)) e
 
-pub column-of-spec : {M : Type 1} → statement M
-column-of-spec =
+pub column_of_spec : {M : Type 1} → statement M
+column_of_spec =
     tie.close
     (tie.spec
     invariant-boxes

@@ -10,8 +10,8 @@ use Rattle.edits.proofs.boxes.record_at.Tie as tie
 returns-2 : tie.Need-returns-2
 returns-2 c = c.no-box.ensures ∙ sym (get_or-eq_default c.before.before.args.t1 blank (omega arith))
 
-pub record-at-spec : {M : Type 1} → statement M
-record-at-spec =
+pub record_at_spec : {M : Type 1} → statement M
+record_at_spec =
     tie.close
     (tie.spec
     (λ c. search rules) (λ c. search rules) (λ c. search rules) (λ c κs. search rules)

@@ -12,8 +12,8 @@ returns c = choose_yes _ (lt-ltb _ _ c.if1.true) refl
 returns-2 : tie.Need-returns-2
 returns-2 c = choose_no _ (le-ltb _ _ c.if1.false) refl
 
-pub skip-of-spec : {M : Type 1} → statement M
-skip-of-spec =
+pub skip_of_spec : {M : Type 1} → statement M
+skip_of_spec =
     tie.close
     (tie.spec
     returns

@@ -13,8 +13,8 @@ returns c = (choose_yes _ (lt-ltb _ _ c.if1.true) refl, omega arith)
 returns-2 : tie.Need-returns-2
 returns-2 c = (choose_no _ (le-ltb _ _ c.if1.false) refl, omega arith)
 
-pub unskip-of-spec : {M : Type 1} → statement M
-unskip-of-spec =
+pub unskip_of_spec : {M : Type 1} → statement M
+unskip_of_spec =
     tie.close
     (tie.spec
     returns

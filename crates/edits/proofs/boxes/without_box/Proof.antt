@@ -5,32 +5,32 @@ use Prim.Native.Nat.{◌≤◌, ◌-◌}
 use native.Mathlib.Omega.{arith}
 use lib.ListN.{replicate}
 use Rattle.laws.specs.Range.{tabulate}
-use Rattle.laws.proofs.Grown.{grown-none, grown-more, grown-all}
+use Rattle.laws.proofs.Grown.{grown_none, grown_more, grown_all}
 use Rattle.model.specs.Limits.{BOXES}
 use Rattle.edits.specs.Records.{blank}
-use Rattle.edits.specs.Moved.{leftAt, withoutBox}
+use Rattle.edits.specs.Moved.{left_at, without_box}
 use borrow.Author.Rules.{rules}
 use Rattle.edits.proofs.boxes.without_box.Statement.{statement}
 use Rattle.edits.proofs.boxes.without_box.Tie as tie
 
 abbrev invariant-boxes : tie.invariant-boxes
-invariant-boxes list p left₀ k₀ left k = (k ≤ BOXES) × (left ≡ tabulate k (leftAt list p) ++ replicate (BOXES - k) blank)
+invariant-boxes list p left₀ k₀ left k = (k ≤ BOXES) × (left ≡ tabulate k (left_at list p) ++ replicate (BOXES - k) blank)
 
 abbrev decreases-boxes : tie.decreases-boxes
 decreases-boxes list p left₀ k₀ left k = BOXES - k
 
 boxes-holds : tie.Need-boxes-init invariant-boxes decreases-boxes
-boxes-holds c = (omega arith, grown-none BOXES (leftAt c.args.list c.args.p) blank)
+boxes-holds c = (omega arith, grown_none BOXES (left_at c.args.list c.args.p) blank)
 
 boxes-again : tie.Need-boxes-preserved invariant-boxes decreases-boxes
-boxes-again c = (omega arith, rw (c.before.before.boxes.invariant.1, c.left_at.ensures) (grown-more BOXES c.before.before.boxes.k (leftAt c.before.before.before.args.list c.before.before.before.args.p) blank (omega arith)))
+boxes-again c = (omega arith, rw (c.before.before.boxes.invariant.1, c.left_at.ensures) (grown_more BOXES c.before.before.boxes.k (left_at c.before.before.before.args.list c.before.before.before.args.p) blank (omega arith)))
 
 returns : tie.Need-returns invariant-boxes decreases-boxes
-unfolding withoutBox
-returns c = c.before.boxes.invariant.1 ∙ grown-all BOXES c.before.boxes.k (leftAt c.before.before.args.list c.before.before.args.p) blank (omega arith)
+unfolding without_box
+returns c = c.before.boxes.invariant.1 ∙ grown_all BOXES c.before.boxes.k (left_at c.before.before.args.list c.before.before.args.p) blank (omega arith)
 
-pub without-box-spec : {M : Type 1} → statement M
-without-box-spec =
+pub without_box_spec : {M : Type 1} → statement M
+without_box_spec =
     tie.close
     (tie.spec
     invariant-boxes

@@ -36,8 +36,8 @@ returns-4 : tie.Need-returns-4
 unfolding done
 returns-4 c = choose_no _ (ne_eqb _ _ c.before.before.before.before.before.before.before.if1.false) (choose_no _ (ne_eqb _ _ c.before.before.before.before.before.if2.false) (choose_no _ (ne_eqb _ _ c.before.before.before.if3.false) c.erase.ensures))
 
-pub done-of-spec : {M : Type 1} → statement M
-done-of-spec =
+pub done_of_spec : {M : Type 1} → statement M
+done_of_spec =
     tie.close
     (tie.spec
     (λ c κs. search rules) (λ c κs. search rules)

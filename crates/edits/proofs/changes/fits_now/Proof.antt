@@ -22,8 +22,8 @@ returns-4 : tie.Need-returns-4
 unfolding fits
 returns-4 c = choose_no _ (ne_eqb _ _ c.before.before.before.before.before.if1.false) (choose_no _ (ne_eqb _ _ c.before.before.before.if2.false) (choose_no _ (ne_eqb _ _ c.before.if3.false) c.fits-arrow2.ensures))
 
-pub fits-now-spec : {M : Type 1} → statement M
-fits-now-spec =
+pub fits_now_spec : {M : Type 1} → statement M
+fits_now_spec =
     tie.close
     (tie.spec
     (λ c κs. search rules)

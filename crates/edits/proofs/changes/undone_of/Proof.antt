@@ -4,7 +4,7 @@ use native.Mathlib.Omega.{arith}
 use borrow.Author.Tests.{eq-eqb, ne_eqb}
 use Rattle.laws.proofs.Tests.{choose_yes, choose_no}
 use Rattle.edits.specs.Done.{undone}
-use Rattle.edits.proofs.Found.{boxes-most}
+use Rattle.edits.proofs.Found.{boxes_most}
 use borrow.Author.Rules.{rules}
 use Rattle.edits.proofs.changes.undone_of.Statement.{statement}
 use Rattle.edits.proofs.changes.undone_of.Tie as tie
@@ -13,7 +13,7 @@ sub-with-record : tie.Need-overflow-sub-with-record
 sub-with-record c = omega (arith, c.boxes-of.ensures, c.before.before.before.requires.add c.before.if1.true)
 
 with-record-requires : tie.Need-with-record-requires
-with-record-requires c κs = omega (arith, c.before.boxes-of.ensures, boxes-most c.before.before.before.before.args.list, c.before.before.before.before.requires.add c.before.before.if1.true)
+with-record-requires c κs = omega (arith, c.before.boxes-of.ensures, boxes_most c.before.before.before.before.args.list, c.before.before.before.before.requires.add c.before.before.if1.true)
 
 returns : tie.Need-returns
 unfolding undone
@@ -40,8 +40,8 @@ returns-4 : tie.Need-returns-4
 unfolding undone
 returns-4 c = choose_no _ (ne_eqb _ _ c.before.before.before.before.before.before.before.if1.false) (choose_no _ (ne_eqb _ _ c.before.before.before.before.before.if2.false) (choose_no _ (ne_eqb _ _ c.before.before.before.if3.false) c.draw.ensures))
 
-pub undone-of-spec : {M : Type 1} → statement M
-undone-of-spec =
+pub undone_of_spec : {M : Type 1} → statement M
+undone_of_spec =
     tie.close
     (tie.spec
     (λ c κs. search rules)

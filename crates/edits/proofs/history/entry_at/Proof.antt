@@ -9,8 +9,8 @@ returns : tie.Need-returns
 unfolding entry
 returns c = refl
 
-pub entry-at-spec : {M : Type 1} → statement M
-entry-at-spec =
+pub entry_at_spec : {M : Type 1} → statement M
+entry_at_spec =
     tie.close
     (tie.spec
     (λ c. search rules) (λ c. search rules) (λ c. search rules) (λ c. search rules) (λ c. search rules) (λ c. search rules) (λ c. search rules)

@@ -6,8 +6,8 @@ use Rattle.edits.proofs.plans.refusal.Tie as tie
 returns : tie.Need-returns
 returns c = rw c.no-entry.ensures
 
-pub refusal-spec : {M : Type 1} → statement M
-refusal-spec =
+pub refusal_spec : {M : Type 1} → statement M
+refusal_spec =
     tie.close
     (tie.spec
     (λ c κs. search rules)

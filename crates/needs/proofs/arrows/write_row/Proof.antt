@@ -5,22 +5,22 @@ use native.Mathlib.Omega.{arith}
 use mathlib.Core.Path.{sym, ◌∙◌}
 use mathlib.Core.List.{◌++◌}
 use Prim.Native.Nat.{◌≤◌, ◌-◌}
-use Rattle.noninterference.specs.Rounds.{arrowsFrom, arrowsUpto}
-use Rattle.needs.specs.Marks.{wantedIn}
+use Rattle.noninterference.specs.Rounds.{arrows_from, arrows_upto}
+use Rattle.needs.specs.Marks.{wanted_in}
 use Rattle.needs.specs.Listed.{Written}
-use Rattle.needs.proofs.Listing.{wanted_room, row-none, row-skip, row_more, row-all}
+use Rattle.needs.proofs.Listing.{wanted_room, row_none, row_skip, row_more, row_all}
 use Rattle.needs.proofs.arrows.write_row.Statement.{statement}
 use Rattle.needs.proofs.arrows.write_row.Tie as tie
 
 abbrev invariant-targets : tie.invariant-targets
 invariant-targets table boxes v list₀ before n₀ u₀ list n u =
-    (u ≤ boxes) × Written list (arrowsUpto (wantedIn table) boxes v ++ arrowsFrom (wantedIn table) v u) n
+    (u ≤ boxes) × Written list (arrows_upto (wanted_in table) boxes v ++ arrows_from (wanted_in table) v u) n
 
 abbrev decreases-targets : tie.decreases-targets
 decreases-targets table boxes v list₀ before n₀ u₀ list n u = boxes - u
 
 targets-holds : tie.Need-targets-init invariant-targets decreases-targets
-targets-holds c = (omega arith, row-none _ _ _ c.before.requires.1)
+targets-holds c = (omega arith, row_none _ _ _ c.before.requires.1)
 
 put-requires : tie.Need-put-requires invariant-targets decreases-targets
 put-requires c κs =
@@ -42,16 +42,16 @@ targets-again c =
     (omega arith, row_more _ _ _ t (wanted_room _ q.0.0 q.0.1 c.before.before.before.before.before.before.targets-test.true t i.1) i.1 c.before.before.put.ensures)
 
 targets-again-2 : tie.Need-targets-preserved-2 invariant-targets decreases-targets
-targets-again-2 c = (omega arith, row-skip _ _ _ (sym c.before.wanted.ensures ∙ c.if1.false) c.before.before.before.targets.invariant.1)
+targets-again-2 c = (omega arith, row_skip _ _ _ (sym c.before.wanted.ensures ∙ c.if1.false) c.before.before.before.targets.invariant.1)
 
 same_length : tie.Need-same-length invariant-targets decreases-targets
 same_length c = c.before.targets.invariant.1.long ∙ sym c.before.before.before.requires.1.long
 
 returns : tie.Need-returns invariant-targets decreases-targets
-returns c = row-all _ _ _ c.before.targets.invariant.1 (omega arith)
+returns c = row_all _ _ _ c.before.targets.invariant.1 (omega arith)
 
-pub write-row-spec : {M : Type 1} → statement M
-write-row-spec =
+pub write_row_spec : {M : Type 1} → statement M
+write_row_spec =
     tie.close
     (tie.spec
     invariant-targets

@@ -51,8 +51,8 @@ array-write-keep c = omega (arith, c.before.before.before.before.wide.ensures, c
 add-s-2 : tie.Need-overflow-add-s-2 invariant-states decreases-states
 add-s-2 c = omega (arith, c.before.before.before.before.before.before.before.before.before.before.requires.0.0)
 
-pub largest-spec : {M : Type 1} → statement M
-largest-spec =
+pub largest_spec : {M : Type 1} → statement M
+largest_spec =
     tie.close
     (tie.spec
     invariant-states

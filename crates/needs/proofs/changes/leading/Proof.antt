@@ -6,7 +6,7 @@ use Prim.Native.Nat.{◌≤◌, ◌-◌}
 use lib.ListN.{length-replicate}
 use Rattle.model.specs.Limits.{STATES}
 use Rattle.needs.specs.Again.{Covered}
-use Rattle.needs.proofs.Moving.{covered_none, covered_more, covered-all}
+use Rattle.needs.proofs.Moving.{covered_none, covered_more, covered_all}
 use Rattle.needs.proofs.changes.leading.Statement.{statement}
 use Rattle.needs.proofs.changes.leading.Tie as tie
 
@@ -36,10 +36,10 @@ moved-again : tie.Need-moved-preserved invariant-moved decreases-moved
 moved-again c = (omega arith, covered_more c.before.before.before.before.before.moved.invariant.1 c.before.before.wide.ensures c.merge.ensures)
 
 returns : tie.Need-returns invariant-moved decreases-moved
-returns c = let i = c.before.moved.invariant in covered-all i.1 _ i.0 c.moved-test.false
+returns c = let i = c.before.moved.invariant in covered_all i.1 _ i.0 c.moved-test.false
 
-pub leading-spec : {M : Type 1} → statement M
-leading-spec =
+pub leading_spec : {M : Type 1} → statement M
+leading_spec =
     tie.close
     (tie.spec
     invariant-moved

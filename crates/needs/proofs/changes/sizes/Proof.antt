@@ -24,8 +24,8 @@ array-read-sizes c = omega (arith, c.before.wide.ensures, c.before.before.before
 array-write-sizes : tie.Need-array-write-sizes invariant-states decreases-states
 array-write-sizes c = omega (arith, c.before.wide.ensures, c.before.before.before.before.before.requires.1.upto _ c.before.before.before.states-test.true, c.before.before.before.before.before.requires.0)
 
-pub sizes-spec : {M : Type 1} → statement M
-sizes-spec =
+pub sizes_spec : {M : Type 1} → statement M
+sizes_spec =
     tie.close
     (tie.spec
     invariant-states

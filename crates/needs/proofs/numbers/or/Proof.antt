@@ -12,5 +12,5 @@ returns-2 : tie.Need-returns-2
 unfolding either
 returns-2 c = rw c.if1.false
 
-pub or-spec : {M : Type 1} → statement M
-or-spec = tie.close (tie.spec returns returns-2)
+pub or_spec : {M : Type 1} → statement M
+or_spec = tie.close (tie.spec returns returns-2)

@@ -13,8 +13,8 @@ returns-2 : tie.Need-returns-2
 unfolding both
 returns-2 c = rw c.if1.false
 
-pub joins-first-spec : {M : Type 1} → statement M
-joins-first-spec = tie.close (tie.spec
+pub joins_first_spec : {M : Type 1} → statement M
+joins_first_spec = tie.close (tie.spec
     (λ c. search rules) (λ c κs. search rules)
     returns
     returns-2)

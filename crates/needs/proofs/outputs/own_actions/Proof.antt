@@ -5,7 +5,7 @@ use Prim.Native.Nat.{ℕ, ◌≤◌, ◌-◌}
 use lib.ListN.{length-replicate}
 use Rattle.model.specs.Limits.{ACTIONS}
 use Rattle.needs.specs.Own.{Owned}
-use Rattle.needs.proofs.Owning.{owned-none, owned-skip, owned-more, owned-all}
+use Rattle.needs.proofs.Owning.{owned_none, owned_skip, owned_more, owned_all}
 use Rattle.needs.proofs.outputs.own_actions.Statement.{statement}
 use Rattle.needs.proofs.outputs.own_actions.Tie as tie
 
@@ -16,7 +16,7 @@ abbrev decreases-actions : tie.decreases-actions
 decreases-actions owners actions u list₀ count₀ a₀ list count a = actions - a
 
 actions-holds : tie.Need-actions-init invariant-actions decreases-actions
-actions-holds c = (omega arith, owned-none (length-replicate {A = ℕ} ACTIONS 0))
+actions-holds c = (omega arith, owned_none (length-replicate {A = ℕ} ACTIONS 0))
 
 owner-requires : tie.Need-owner-requires invariant-actions decreases-actions
 owner-requires c κs = tt
@@ -32,16 +32,16 @@ add-count c = omega (arith, c.before.before.before.before.before.actions.invaria
 
 actions-again : tie.Need-actions-preserved invariant-actions decreases-actions
 actions-again c =
-    (omega arith, owned-more c.before.before.before.before.before.actions.invariant.1 (omega (arith, c.before.before.before.before.before.before.requires)) c.before.before.owner.ensures c.before.if1.true c.narrow.ensures)
+    (omega arith, owned_more c.before.before.before.before.before.actions.invariant.1 (omega (arith, c.before.before.before.before.before.before.requires)) c.before.before.owner.ensures c.before.if1.true c.narrow.ensures)
 
 actions-again-2 : tie.Need-actions-preserved-2 invariant-actions decreases-actions
-actions-again-2 c = (omega arith, owned-skip c.before.before.before.before.actions.invariant.1 c.before.owner.ensures c.if1.false)
+actions-again-2 c = (omega arith, owned_skip c.before.before.before.before.actions.invariant.1 c.before.owner.ensures c.if1.false)
 
 returns : tie.Need-returns invariant-actions decreases-actions
-returns c = let i = c.before.actions.invariant in owned-all i.1 _ i.0 c.actions-test.false
+returns c = let i = c.before.actions.invariant in owned_all i.1 _ i.0 c.actions-test.false
 
-pub own-actions-spec : {M : Type 1} → statement M
-own-actions-spec =
+pub own_actions_spec : {M : Type 1} → statement M
+own_actions_spec =
     tie.close
     (tie.spec
     invariant-actions

@@ -18,18 +18,18 @@ actions-holds : tie.Need-actions-init invariant-actions decreases-actions
 actions-holds c = (omega arith, held_none _)
 
 element-copy-out-wide : tie.Need-element-copy-out-wide invariant-actions decreases-actions
-element-copy-out-wide c = let q = c.before.before.before.requires in omega (arith, q.0.most, q.0.actions-most)
+element-copy-out-wide c = let q = c.before.before.before.requires in omega (arith, q.0.most, q.0.actions_most)
 
 wide-requires : tie.Need-wide-requires invariant-actions decreases-actions
 wide-requires c κs = tt
 
 output-requires : tie.Need-output-requires invariant-actions decreases-actions
 output-requires c κs =
-    let q = c.before.before.before.before.before.requires in (q.0.outputs-long, q.0.actions-most, q.1.0, listed_in q.0 c.before.before.actions-test.true c.wide.ensures)
+    let q = c.before.before.before.before.before.requires in (q.0.outputs_long, q.0.actions_most, q.1.0, listed_in q.0 c.before.before.actions-test.true c.wide.ensures)
 
 output-requires-2 : tie.Need-output-requires-2 invariant-actions decreases-actions
 output-requires-2 c κs =
-    let q = c.before.before.before.before.before.before.requires in (q.0.outputs-long, q.0.actions-most, q.1.1, listed_in q.0 c.before.before.before.actions-test.true c.before.wide.ensures)
+    let q = c.before.before.before.before.before.before.requires in (q.0.outputs_long, q.0.actions_most, q.1.1, listed_in q.0 c.before.before.before.actions-test.true c.before.wide.ensures)
 
 returns : tie.Need-returns invariant-actions decreases-actions
 returns c =
@@ -37,7 +37,7 @@ returns c =
     seen_apart g.own.now _ g.outputs.now g.actions _ _ c.before.before.before.before.before.actions-test.true c.before.before.before.wide.ensures c.before.before.output.ensures.0 c.before.output2.ensures.0 c.if1.true
 
 add-i : tie.Need-overflow-add-i invariant-actions decreases-actions
-add-i c = let q = c.before.before.before.before.before.before.before.before.requires in omega (arith, q.0.most, q.0.actions-most)
+add-i c = let q = c.before.before.before.before.before.before.before.before.requires in omega (arith, q.0.most, q.0.actions_most)
 
 actions-again : tie.Need-actions-preserved invariant-actions decreases-actions
 actions-again c =
@@ -48,8 +48,8 @@ returns-2 : tie.Need-returns-2 invariant-actions decreases-actions
 returns-2 c =
     let g = c.before.before.before.args in seen_all g.own.now _ g.outputs.now g.actions _ _ c.actions-test.false c.before.actions.invariant.1
 
-pub seen-alike-spec : {M : Type 1} → statement M
-seen-alike-spec =
+pub seen_alike_spec : {M : Type 1} → statement M
+seen_alike_spec =
     tie.close
     (tie.spec
     invariant-actions

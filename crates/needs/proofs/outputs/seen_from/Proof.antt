@@ -3,16 +3,16 @@
 use native.Mathlib.Omega.{arith}
 use mathlib.Core.Path.{sym, ◌∙◌}
 use Prim.Native.Nat.{◌≤◌, ◌-◌}
-use Rattle.reach.specs.Set.{flagAt}
+use Rattle.reach.specs.Set.{flag_at}
 use Rattle.needs.specs.Classes.{Missed}
-use Rattle.needs.specs.Own.{seenBy}
-use Rattle.needs.proofs.Agreeing.{missed-follows, missed_more, missed-hit, missed-all}
-use Rattle.needs.proofs.Owning.{seen-joined}
+use Rattle.needs.specs.Own.{seen_by}
+use Rattle.needs.proofs.Agreeing.{missed_follows, missed_more, missed_hit, missed_all}
+use Rattle.needs.proofs.Owning.{seen_joined}
 use Rattle.needs.proofs.outputs.seen_from.Statement.{statement}
 use Rattle.needs.proofs.outputs.seen_from.Tie as tie
 
 abbrev invariant-earlier : tie.invariant-earlier
-invariant-earlier outputs own count inside d actions s start t₀ t = (t ≤ s) × Missed (flagAt inside) (seenBy own count outputs actions) s t
+invariant-earlier outputs own count inside d actions s start t₀ t = (t ≤ s) × Missed (flag_at inside) (seen_by own count outputs actions) s t
 
 abbrev decreases-earlier : tie.decreases-earlier
 decreases-earlier outputs own count inside d actions s start t₀ t = s - t
@@ -33,7 +33,7 @@ earlier-again : tie.Need-earlier-preserved invariant-earlier decreases-earlier
 earlier-again c =
     let q = c.before.before.before.before.before.before.requires in
     let g = c.before.before.before.before.before.before.args in
-    (omega arith, missed-follows _ _ _ (seen-joined g.own.now g.count g.outputs.now g.actions) q.1.0 c.before.before.before.earlier-test.true c.before.before.before.before.earlier.invariant.1 c.before.wide.ensures c.if1.true)
+    (omega arith, missed_follows _ _ _ (seen_joined g.own.now g.count g.outputs.now g.actions) q.1.0 c.before.before.before.earlier-test.true c.before.before.before.before.earlier.invariant.1 c.before.wide.ensures c.if1.true)
 
 joins-first-requires : tie.Need-joins-first-requires invariant-earlier decreases-earlier
 joins-first-requires c κs =
@@ -41,7 +41,7 @@ joins-first-requires c κs =
 
 returns : tie.Need-returns invariant-earlier decreases-earlier
 returns c =
-    (missed-hit _ _ _ c.before.before.before.before.before.before.earlier.invariant.1 c.before.before.before.before.before.earlier-test.true (sym c.before.joins-first.ensures ∙ c.if2.true), omega arith)
+    (missed_hit _ _ _ c.before.before.before.before.before.before.earlier.invariant.1 c.before.before.before.before.before.earlier-test.true (sym c.before.joins-first.ensures ∙ c.if2.true), omega arith)
 
 add-t-2 : tie.Need-overflow-add-t-2 invariant-earlier decreases-earlier
 add-t-2 c = omega (arith, c.before.before.before.before.before.before.before.before.requires.1.1.1.1)
@@ -51,10 +51,10 @@ earlier-again-2 c =
     (omega arith, missed_more _ _ _ c.before.before.before.before.before.before.earlier.invariant.1 (sym c.before.joins-first.ensures ∙ c.if2.false))
 
 returns-2 : tie.Need-returns-2 invariant-earlier decreases-earlier
-returns-2 c = (missed-all _ _ _ c.before.earlier.invariant.1 c.earlier-test.false, omega arith)
+returns-2 c = (missed_all _ _ _ c.before.earlier.invariant.1 c.earlier-test.false, omega arith)
 
-pub seen-from-spec : {M : Type 1} → statement M
-seen-from-spec =
+pub seen_from_spec : {M : Type 1} → statement M
+seen_from_spec =
     tie.close
     (tie.spec
     invariant-earlier

@@ -6,7 +6,7 @@ use Rattle.needs.proofs.rounds.joins.Statement.{statement}
 use Rattle.needs.proofs.rounds.joins.Tie as tie
 
 element-copy-out-if1 : tie.Need-element-copy-out-if1
-element-copy-out-if1 c = let q = c.before.requires in omega (arith, q.0.states-most, q.1.0)
+element-copy-out-if1 c = let q = c.before.requires in omega (arith, q.0.states_most, q.1.0)
 
 agree-requires : tie.Need-agree-requires
 agree-requires c κs = c.before.before.before.requires
@@ -19,5 +19,5 @@ returns-2 : tie.Need-returns-2
 unfolding both
 returns-2 c = rw c.if1.false
 
-pub joins-spec : {M : Type 1} → statement M
-joins-spec = tie.close (tie.spec element-copy-out-if1 agree-requires returns returns-2)
+pub joins_spec : {M : Type 1} → statement M
+joins_spec = tie.close (tie.spec element-copy-out-if1 agree-requires returns returns-2)

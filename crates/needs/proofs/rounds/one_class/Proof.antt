@@ -6,16 +6,16 @@ use borrow.Author.Tests.{eq-eqb, ne_eqb}
 use lib.Dec.{eqb}
 use Rattle.laws.specs.Choice.{brings}
 use Rattle.laws.specs.Range.{Held}
-use Rattle.laws.proofs.Tests.{brings-of, not-both}
-use Rattle.laws.proofs.Loops.{every-yes, every-no}
+use Rattle.laws.proofs.Tests.{brings_of, not_both}
+use Rattle.laws.proofs.Loops.{every_yes, every_no}
 use Rattle.laws.proofs.Range.{held_none, held_more}
-use Rattle.reach.specs.Set.{flagAt}
+use Rattle.reach.specs.Set.{flag_at}
 use Rattle.needs.specs.Tables.{entry}
 use Rattle.needs.proofs.rounds.one_class.Statement.{statement}
 use Rattle.needs.proofs.rounds.one_class.Tie as tie
 
 abbrev invariant-states : tie.invariant-states
-invariant-states inside c states s₀ s = (s ≤ states) × Held s (λ (s : ℕ). brings (flagAt inside s) (eqb (entry c s) 0))
+invariant-states inside c states s₀ s = (s ≤ states) × Held s (λ (s : ℕ). brings (flag_at inside s) (eqb (entry c s) 0))
 
 abbrev decreases-states : tie.decreases-states
 decreases-states inside c states s₀ s = states - s
@@ -27,23 +27,23 @@ element-copy-out-if1 : tie.Need-element-copy-out-if1 invariant-states decreases-
 element-copy-out-if1 c = omega (arith, c.before.before.requires)
 
 states-again : tie.Need-states-preserved invariant-states decreases-states
-states-again c = (omega arith, held_more _ _ c.before.before.before.states.invariant.1 (brings-of _ (λ i. eq-eqb _ _ c.if1.true)))
+states-again c = (omega arith, held_more _ _ c.before.before.before.states.invariant.1 (brings_of _ (λ i. eq-eqb _ _ c.if1.true)))
 
 element-copy-out-if2 : tie.Need-element-copy-out-if2 invariant-states decreases-states
 element-copy-out-if2 c = omega (arith, c.before.before.before.before.requires)
 
 returns : tie.Need-returns invariant-states decreases-states
 unfolding brings
-returns c = every-no _ _ _ c.before.before.before.before.states-test.true (rw (c.if2.true, ne_eqb _ _ c.before.before.if1.false))
+returns c = every_no _ _ _ c.before.before.before.before.states-test.true (rw (c.if2.true, ne_eqb _ _ c.before.before.if1.false))
 
 states-again-2 : tie.Need-states-preserved-2 invariant-states decreases-states
-states-again-2 c = (omega arith, held_more _ _ c.before.before.before.before.before.states.invariant.1 (brings-of _ (λ i. not-both i c.if2.false)))
+states-again-2 c = (omega arith, held_more _ _ c.before.before.before.before.before.states.invariant.1 (brings_of _ (λ i. not_both i c.if2.false)))
 
 returns-2 : tie.Need-returns-2 invariant-states decreases-states
-returns-2 c = every-yes _ _ c.states-test.false c.before.states.invariant.1
+returns-2 c = every_yes _ _ c.states-test.false c.before.states.invariant.1
 
-pub one-class-spec : {M : Type 1} → statement M
-one-class-spec =
+pub one_class_spec : {M : Type 1} → statement M
+one_class_spec =
     tie.close
     (tie.spec
     invariant-states

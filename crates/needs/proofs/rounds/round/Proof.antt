@@ -5,22 +5,22 @@ use mathlib.Core.Path.{refl, sym, ◌∙◌, ap, subst}
 use Prim.Native.Nat.{ℕ, ◌≤◌, ◌-◌}
 use lib.ListN.{length-replicate}
 use Rattle.model.specs.Limits.{STATES}
-use Rattle.reach.specs.Set.{flagAt}
-use Rattle.needs.specs.Tables.{stepIn, entry}
+use Rattle.reach.specs.Set.{flag_at}
+use Rattle.needs.specs.Tables.{step_in, entry}
 use Rattle.needs.specs.Classes.{agrees, Led}
-use Rattle.needs.specs.Again.{Leads, MovedTo, keptNumber}
-use Rattle.needs.specs.Starts.{SLOTS, nextSlot, Begun}
-use Rattle.needs.proofs.Agreeing.{missed-start, missed-all, led-none, led-more, led-all}
-use Rattle.needs.proofs.Looking.{leads-none, leads-keep, lead-before, lead-next}
-use Rattle.needs.proofs.Moving.{kept-known, kept-first, moved_none, moved-kept, moved_all, Same, same_none, same_more, same_kept, same-lead, same-all}
-use Rattle.needs.proofs.Starting.{begun-none, begun-old, begun-follows, below-small}
+use Rattle.needs.specs.Again.{Leads, MovedTo, kept_number}
+use Rattle.needs.specs.Starts.{SLOTS, next_slot, Begun}
+use Rattle.needs.proofs.Agreeing.{missed_start, missed_all, led_none, led_more, led_all}
+use Rattle.needs.proofs.Looking.{leads_none, leads_keep, lead_before, lead_next}
+use Rattle.needs.proofs.Moving.{kept_known, kept_first, moved_none, moved_kept, moved_all, Same, same_none, same_more, same_kept, same_lead, same_all}
+use Rattle.needs.proofs.Starting.{begun_none, begun_old, begun_follows, below_small}
 use Rattle.needs.proofs.rounds.round.Statement.{statement}
 use Rattle.needs.proofs.rounds.round.Tie as tie
 
 abbrev invariant-states : tie.invariant-states
 invariant-states next inside c marks states actions d₀ lead₀ starts₀ moved₀ count₀ same₀ s₀ d lead starts moved count same s =
-    (s ≤ states) × Led (flagAt inside) (agrees (stepIn actions next) actions (entry c)) d s × Leads actions next c lead inside marks s
-    × Begun (flagAt inside) (agrees (stepIn actions next) actions (entry c)) (entry c) (nextSlot actions next c) starts s
+    (s ≤ states) × Led (flag_at inside) (agrees (step_in actions next) actions (entry c)) d s × Leads actions next c lead inside marks s
+    × Begun (flag_at inside) (agrees (step_in actions next) actions (entry c)) (entry c) (next_slot actions next c) starts s
     × MovedTo s c d lead moved count
     × Same inside c d s same
 
@@ -30,24 +30,24 @@ decreases-states next inside c marks states actions d₀ lead₀ starts₀ moved
 states-holds : tie.Need-states-init invariant-states decreases-states
 states-holds c = (
   omega arith,
-  led-none _ _ refl,
-  leads-none,
-  begun-none _ _ _ _ (length-replicate {A = ℕ} SLOTS STATES),
+  led_none _ _ refl,
+  leads_none,
+  begun_none _ _ _ _ (length-replicate {A = ℕ} SLOTS STATES),
   moved_none (length-replicate {A = ℕ} STATES 0),
   same_none,
 )
 
 element-copy-out-wide : tie.Need-element-copy-out-wide invariant-states decreases-states
-element-copy-out-wide c = omega (arith, c.before.before.before.requires.0.states-most)
+element-copy-out-wide c = omega (arith, c.before.before.before.requires.0.states_most)
 
 narrow-requires : tie.Need-narrow-requires invariant-states decreases-states
-narrow-requires c κs = omega (arith, c.before.before.before.before.before.before.requires.0.states-most, c.before.before.before.states-test.true)
+narrow-requires c κs = omega (arith, c.before.before.before.before.before.before.requires.0.states_most, c.before.before.before.states-test.true)
 
 array-write-d : tie.Need-array-write-d invariant-states decreases-states
-array-write-d c = omega (arith, c.before.before.before.before.before.before.before.requires.0.states-most)
+array-write-d c = omega (arith, c.before.before.before.before.before.before.before.requires.0.states_most)
 
 add-s : tie.Need-overflow-add-s invariant-states decreases-states
-add-s c = omega (arith, c.before.before.before.before.before.before.before.requires.0.states-most)
+add-s c = omega (arith, c.before.before.before.before.before.before.before.requires.0.states_most)
 
 states-again : tie.Need-states-preserved invariant-states decreases-states
 states-again c =
@@ -55,17 +55,17 @@ states-again c =
     let g = c.before.before.before.before.before.before.before.args in
     let i = c.before.before.before.before.before.states.invariant in
     let l = c.before.before.before.before.states-test.true in
-    let m = q.0.states-most in
+    let m = q.0.states_most in
     let o = c.before.before.wide.ensures in
     let n = c.narrow.ensures in
     let z = c.before.if1.true in
-    let e = missed-all _ _ _ (missed-start (stepIn g.actions g.next.now) g.actions q.1.0 l o) (omega (arith, z)) in
-    let w = led-more _ _ i.1 (omega (arith, m, l)) (n ∙ e) in (
+    let e = missed_all _ _ _ (missed_start (step_in g.actions g.next.now) g.actions q.1.0 l o) (omega (arith, z)) in
+    let w = led_more _ _ i.1 (omega (arith, m, l)) (n ∙ e) in (
       omega arith,
       w,
-      leads-keep i.2,
-      begun-old _ _ _ _ i.3 (sym z ∙ o),
-      moved-kept i.4 (omega (arith, m, l, i.1.long)) _ (n ∙ kept-first q.1.0 i.2 m l ∙ ap (keptNumber _) (sym z ∙ o)),
+      leads_keep i.2,
+      begun_old _ _ _ _ i.3 (sym z ∙ o),
+      moved_kept i.4 (omega (arith, m, l, i.1.long)) _ (n ∙ kept_first q.1.0 i.2 m l ∙ ap (kept_number _) (sym z ∙ o)),
       same_kept i.1 i.5 w (omega (arith, m, l)) (λ t. sym o ∙ z ∙ sym n),
     )
 
@@ -73,34 +73,34 @@ known-requires : tie.Need-known-requires invariant-states decreases-states
 known-requires c κs =
     let q = c.before.before.before.before.before.before.before.requires in
     let l = c.before.before.before.before.states-test.true in
-    (omega (arith, q.0.states-most, l), below-small q.0 q.1.0 l c.before.before.wide.ensures)
+    (omega (arith, q.0.states_most, l), below_small q.0 q.1.0 l c.before.before.wide.ensures)
 
 array-write-d-2 : tie.Need-array-write-d-2 invariant-states decreases-states
-array-write-d-2 c = omega (arith, c.before.before.before.before.before.before.before.before.before.before.requires.0.states-most)
+array-write-d-2 c = omega (arith, c.before.before.before.before.before.before.before.before.before.before.requires.0.states_most)
 
 add-s-2 : tie.Need-overflow-add-s-2 invariant-states decreases-states
-add-s-2 c = omega (arith, c.before.before.before.before.before.before.before.before.before.before.requires.0.states-most)
+add-s-2 c = omega (arith, c.before.before.before.before.before.before.before.before.before.before.requires.0.states_most)
 
 states-again-2 : tie.Need-states-preserved-2 invariant-states decreases-states
 states-again-2 c =
     let q = c.before.before.before.before.before.before.before.before.before.before.requires in
     let i = c.before.before.before.before.before.before.before.before.states.invariant in
     let l = c.before.before.before.before.before.before.before.states-test.true in
-    let m = q.0.states-most in
+    let m = q.0.states_most in
     let o = c.before.before.before.before.before.wide.ensures in
     let n = c.narrow2.ensures in
     let r = c.before.before.known.ensures in
     let z = c.before.if2.true in
     let k = r.1 (r.0 z) in
-    let p = below-small q.0 q.1.0 l o in
-    let e = lead-next q.1.1 i.2 l p o (r.0 z) k z in
-    let w = led-more _ _ i.1 (omega (arith, m, l)) (n ∙ e) in (
+    let p = below_small q.0 q.1.0 l o in
+    let e = lead_next q.1.1 i.2 l p o (r.0 z) k z in
+    let w = led_more _ _ i.1 (omega (arith, m, l)) (n ∙ e) in (
       omega arith,
       w,
-      leads-keep i.2,
-      begun-follows _ _ _ _ i.3 e (lead-before i.2 p k z),
-      moved-kept i.4 (omega (arith, m, l, i.1.long)) _ (n ∙ kept-known _ _ k z ∙ ap (keptNumber _) o),
-      same_kept i.1 i.5 w (omega (arith, m, l)) (λ t. sym o ∙ same-lead i.1 i.2 i.5 p k z t ∙ sym n),
+      leads_keep i.2,
+      begun_follows _ _ _ _ i.3 e (lead_before i.2 p k z),
+      moved_kept i.4 (omega (arith, m, l, i.1.long)) _ (n ∙ kept_known _ _ k z ∙ ap (kept_number _) o),
+      same_kept i.1 i.5 w (omega (arith, m, l)) (λ t. sym o ∙ same_lead i.1 i.2 i.5 p k z t ∙ sym n),
     )
 
 place-requires : tie.Need-place-requires invariant-states decreases-states
@@ -131,10 +131,10 @@ place-requires c κs =
     )
 
 still-requires : tie.Need-still-requires invariant-states decreases-states
-still-requires c κs = omega (arith, c.before.before.before.before.before.before.before.before.before.before.before.before.before.before.before.requires.0.states-most, c.before.before.before.before.before.before.before.before.before.before.before.before.states-test.true)
+still-requires c κs = omega (arith, c.before.before.before.before.before.before.before.before.before.before.before.before.before.before.before.requires.0.states_most, c.before.before.before.before.before.before.before.before.before.before.before.before.states-test.true)
 
 add-s-3 : tie.Need-overflow-add-s-3 invariant-states decreases-states
-add-s-3 c = omega (arith, c.before.before.before.before.before.before.before.before.before.before.before.before.before.before.before.before.requires.0.states-most)
+add-s-3 c = omega (arith, c.before.before.before.before.before.before.before.before.before.before.before.before.before.before.before.before.requires.0.states_most)
 
 states-again-3 : tie.Need-states-preserved-3 invariant-states decreases-states
 states-again-3 c =
@@ -146,10 +146,10 @@ returns : tie.Need-returns invariant-states decreases-states
 returns c =
     let i = c.before.states.invariant in
     let l = c.states-test.false in
-    (led-all _ _ _ i.1 l, (same-all _ i.5 i.0 l, moved_all _ i.4 l))
+    (led_all _ _ _ i.1 l, (same_all _ i.5 i.0 l, moved_all _ i.4 l))
 
-pub round-spec : {M : Type 1} → statement M
-round-spec =
+pub round_spec : {M : Type 1} → statement M
+round_spec =
     tie.close
     (tie.spec
     invariant-states

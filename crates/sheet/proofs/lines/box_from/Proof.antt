@@ -19,8 +19,8 @@ returns-3 c = more c.before.before.before.before.before.before.before.args.ids.n
 returns-4 : tie.Need-returns-4
 returns-4 c = c.box_of.ensures ∙ rw (ap (λ (f : Field). f.number) c.before.before.before.before.before.number-from.ensures) (two c.before.before.before.before.before.before.before.before.before.args.ids.now c.before.before.before.before.before.before.before.before.before.args.line.now _ (omega arith) _ (ap (λ (f : Field). f.end) c.before.before.before.before.before.number-from.ensures) (omega arith) _ c.before.before.before.find.ensures c.before.before.if3.false)
 
-pub box-from-spec : {M : Type 1} → statement M
-box-from-spec =
+pub box_from_spec : {M : Type 1} → statement M
+box_from_spec =
     tie.close
     (tie.spec
     returns

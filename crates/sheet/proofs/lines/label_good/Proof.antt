@@ -15,8 +15,8 @@ returns-2 c = simp (lt-ltb 0 (length c.before.before.before.args.label.now) (ome
 returns-3 : tie.Need-returns-3
 returns-3 c = simp (lt-ltb 0 (length c.before.before.before.before.args.label.now) (omega arith), le-leb _ _ c.before.if2.false) c.plain.ensures
 
-pub label-good-spec : {M : Type 1} → statement M
-label-good-spec = tie.close (tie.spec
+pub label_good_spec : {M : Type 1} → statement M
+label_good_spec = tie.close (tie.spec
     returns
     returns-2
     (λ c κs. search rules)

@@ -18,8 +18,8 @@ returns-4 c = rw c.before.before.due.given.1 c.go-line.ensures
 returns-5 : tie.Need-returns-5
 returns-5 c = rw c.before.before.due2.given.1 c.view-line.ensures
 
-pub line-due-spec : {M : Type 1} → statement M
-line-due-spec =
+pub line_due_spec : {M : Type 1} → statement M
+line_due_spec =
     tie.close
     (tie.spec
     (λ c. search rules) (λ c κs. search rules) (λ c. search rules) (λ c κs. search rules) (λ c. search rules) (λ c κs. search rules)

@@ -5,8 +5,8 @@ use mathlib.Core.Logic.{⊎_elim}
 use native.Mathlib.Omega.{arith}
 use lib.ListN.{length}
 use Rattle.text.specs.declared.Field.{Field}
-use Rattle.text.proofs.Parts.{end-within}
-use Rattle.sheet.proofs.Collect.{At, start, too_many, too_few, all, a-number, no_number}
+use Rattle.text.proofs.Parts.{end_within}
+use Rattle.sheet.proofs.Collect.{At, start, too_many, too_few, all, a_number, no_number}
 use borrow.Author.Rules.{rules}
 use Rattle.sheet.proofs.lines.numbers_from.Statement.{statement}
 use Rattle.sheet.proofs.lines.numbers_from.Tie as tie
@@ -24,12 +24,12 @@ returns : tie.Need-returns invariant-loop decreases-loop
 returns c = too_few c.before.before.loop.invariant (omega arith) (omega arith)
 
 add_at : tie.Need-overflow-add-at invariant-loop decreases-loop
-add_at c = omega (arith, ap (λ (f : Field). f.end) c.before.number-from.ensures, end-within c.before.before.before.before.before.before.before.before.args.line.now 9 c.before.before.before.before.before.loop.at (omega arith))
+add_at c = omega (arith, ap (λ (f : Field). f.end) c.before.number-from.ensures, end_within c.before.before.before.before.before.before.before.before.args.line.now 9 c.before.before.before.before.before.loop.at (omega arith))
 
 loop-again : tie.Need-loop-preserved invariant-loop decreases-loop
 loop-again c = rw (ap (λ (f : Field). f.end) c.before.number-from.ensures)
     (⊎_elim
-    (λ w. rw (w.3, w.4) (a-number c.before.before.before.before.before.loop.invariant (omega arith) (omega arith) _ (sym (ap (λ (f : Field). f.number) c.before.number-from.ensures) ∙ w.1.given.1)))
+    (λ w. rw (w.3, w.4) (a_number c.before.before.before.before.before.loop.invariant (omega arith) (omega arith) _ (sym (ap (λ (f : Field). f.number) c.before.number-from.ensures) ∙ w.1.given.1)))
     (λ w. rw (w.2, w.3) (no_number c.before.before.before.before.before.loop.invariant (omega arith) (omega arith) (sym (ap (λ (f : Field). f.number) c.before.number-from.ensures) ∙ w.1.given.1)))
     c.match.branch)
 
@@ -42,8 +42,8 @@ returns-3 c = rw c.if3.true at (all c.before.before.before.loop.invariant (omega
 returns-4 : tie.Need-returns-4 invariant-loop decreases-loop
 returns-4 c = rw c.if3.false at (all c.before.before.before.loop.invariant (omega arith) (omega arith))
 
-pub numbers-from-spec : {M : Type 1} → statement M
-numbers-from-spec =
+pub numbers_from_spec : {M : Type 1} → statement M
+numbers_from_spec =
     tie.close
     (tie.spec
     invariant-loop

@@ -55,8 +55,8 @@ loop-again c = more c.before.before.before.before.before.loop.invariant (omega a
 returns-3 : tie.Need-returns-3 invariant-loop decreases-loop
 returns-3 c = end c.before.loop.invariant (omega arith)
 
-pub plain-spec : {M : Type 1} → statement M
-plain-spec =
+pub plain_spec : {M : Type 1} → statement M
+plain_spec =
     tie.close
     (tie.spec
     invariant-loop

@@ -9,5 +9,5 @@ returns c = simp (lt-ltb _ _ c.if1.true)
 returns-2 : tie.Need-returns-2
 returns-2 c = simp (le-ltb _ _ c.if1.false)
 
-pub sized-spec : {M : Type 1} → statement M
-sized-spec = tie.close (tie.spec returns returns-2)
+pub sized_spec : {M : Type 1} → statement M
+sized_spec = tie.close (tie.spec returns returns-2)

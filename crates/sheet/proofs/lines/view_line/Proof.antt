@@ -1,29 +1,29 @@
 -- `sheet::view_line` meets its contract. Assumes nothing.
 use mathlib.Core.Path.{sym, ◌∙◌}
 use borrow.Author.Tests.{eq-eqb, ne_eqb}
-use Rattle.sheet.specs.Records.{viewLine}
+use Rattle.sheet.specs.Records.{view_line}
 use borrow.Author.Rules.{rules}
 use Rattle.sheet.proofs.lines.view_line.Statement.{statement}
 use Rattle.sheet.proofs.lines.view_line.Tie as tie
 
 returns : tie.Need-returns
-unfolding viewLine
+unfolding view_line
 returns c = simp (sym c.before.before.before.before.record_of.ensures ∙ c.before.before.i.given.1, ne_eqb _ _ c.if1.true)
 
 returns-2 : tie.Need-returns-2
-unfolding viewLine
+unfolding view_line
 returns-2 c = simp (sym c.before.before.before.before.before.record_of.ensures ∙ c.before.before.before.i.given.1, eq-eqb _ _ c.before.if1.false, ne_eqb _ _ c.if2.true)
 
 returns-3 : tie.Need-returns-3
-unfolding viewLine
+unfolding view_line
 returns-3 c = rw (sym c.before.before.before.record_of.ensures ∙ c.before.e.given.1)
 
 returns-4 : tie.Need-returns-4
-unfolding viewLine
+unfolding view_line
 returns-4 c = simp (sym c.before.before.before.before.before.record_of.ensures ∙ c.before.before.before.i.given.1, eq-eqb _ _ c.before.if1.false, eq-eqb _ _ c.if2.false)
 
-pub view-line-spec : {M : Type 1} → statement M
-view-line-spec =
+pub view_line_spec : {M : Type 1} → statement M
+view_line_spec =
     tie.close
     (tie.spec
     (λ c. search rules) (λ c. search rules) (λ c κs. search rules) (λ c. search rules) (λ c. search rules)

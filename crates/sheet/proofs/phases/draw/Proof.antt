@@ -17,7 +17,7 @@ returns c =
     let a = c.before.args in
     ap (λ bit. set a.arrows.now a.v (bit_or (get_or a.arrows.now a.v 0) bit)) (shl_exact 1 a.u 32 (omega arith) (omega arith) ∙ one-mul (2 ^ a.u))
 
-pub draw-spec : {M : Type 1} → statement M
-draw-spec = tie.close (tie.spec
+pub draw_spec : {M : Type 1} → statement M
+draw_spec = tie.close (tie.spec
     (λ c. search rules) (λ c. search rules) (λ c. search rules) (λ c. search rules) (λ c. search rules) (λ c. search rules)
     returns)

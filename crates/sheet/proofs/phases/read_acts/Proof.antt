@@ -7,16 +7,16 @@ use lib.ListN.{length, drop, set, length-set}
 use Rattle.model.specs.Limits.{ACTIONS, BOXES}
 use Rattle.text.specs.Lines.{lines}
 use Rattle.sheet.specs.declared.Record.{Record}
-use Rattle.sheet.specs.Records.{actLine}
+use Rattle.sheet.specs.Records.{act_line}
 use Rattle.sheet.specs.Phases.{acts}
-use Rattle.sheet.proofs.Going.{Going, start, over, stopped, took, said, line-fits}
-use Rattle.sheet.proofs.Good.{act-good}
+use Rattle.sheet.proofs.Going.{Going, start, over, stopped, took, said, line_fits}
+use Rattle.sheet.proofs.Good.{act_good}
 use borrow.Author.Rules.{rules}
 use Rattle.sheet.proofs.phases.read_acts.Statement.{statement}
 use Rattle.sheet.proofs.phases.read_acts.Tie as tie
 
 abbrev due : List ℕ → ℕ → List ℕ → List ℕ → Record
-due ids k _ = actLine ids
+due ids k _ = act_line ids
 
 abbrev kept : ℕ → List ℕ → ℕ → ℕ → ℕ → ℕ → List ℕ
 kept k owners position _ _ _ = set owners k position
@@ -40,10 +40,10 @@ returns : tie.Need-returns invariant-loop decreases-loop
 returns c = (stopped c.before.before.before.before.before.loop.invariant.going (omega arith) _ (sym c.before.before.before.take-due.ensures ∙ c.before.number.given.1), tt)
 
 cast-owners : tie.Need-overflow-cast-owners invariant-loop decreases-loop
-cast-owners c = omega (arith, act-good c.before.before.before.before.before.before.before.before.args.ids.now _ (said c.before.before.before.before.before.loop.invariant.going (omega arith) (sym c.before.before.before.take-due.ensures ∙ c.before.position.given.1)))
+cast-owners c = omega (arith, act_good c.before.before.before.before.before.before.before.before.args.ids.now _ (said c.before.before.before.before.before.loop.invariant.going (omega arith) (sym c.before.before.before.take-due.ensures ∙ c.before.position.given.1)))
 
 add-line : tie.Need-overflow-add-line invariant-loop decreases-loop
-add-line c = omega (arith, line-fits c.before.before.before.before.before.loop.invariant.going (omega arith) (sym c.before.before.before.take-due.ensures ∙ c.before.position.given.1))
+add-line c = omega (arith, line_fits c.before.before.before.before.before.loop.invariant.going (omega arith) (sym c.before.before.before.take-due.ensures ∙ c.before.position.given.1))
 
 loop-again : tie.Need-loop-preserved invariant-loop decreases-loop
 loop-again c = record { small = c.before.before.before.before.before.loop.invariant.small; few-ids = c.before.before.before.before.before.loop.invariant.few-ids; room = simp length-set c.before.before.before.before.before.loop.invariant.room; going = took c.before.before.before.before.before.loop.invariant.going (omega arith) (sym c.before.before.before.take-due.ensures ∙ c.before.position.given.1) }
@@ -51,8 +51,8 @@ loop-again c = record { small = c.before.before.before.before.before.loop.invari
 returns-2 : tie.Need-returns-2 invariant-loop decreases-loop
 returns-2 c = (over c.before.loop.invariant.going (omega arith), c.before.loop.invariant.going.few)
 
-pub read-acts-spec : {M : Type 1} → statement M
-read-acts-spec =
+pub read_acts_spec : {M : Type 1} → statement M
+read_acts_spec =
     tie.close
     (tie.spec
     invariant-loop

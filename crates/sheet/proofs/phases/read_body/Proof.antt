@@ -3,8 +3,8 @@ use Prim.Native.Nat.{◌-◌}
 use native.Mathlib.Omega.{arith}
 use native.Mathlib.Nat.{sub-zero}
 use lib.Seq.{length-take-le}
-use Rattle.sheet.specs.Reading.{parts, partsAs}
-use Rattle.sheet.proofs.Chain.{few-done, chain-last}
+use Rattle.sheet.specs.Reading.{parts, parts_as}
+use Rattle.sheet.proofs.Chain.{few_done, chain_last}
 use borrow.Author.Rules.{rules}
 use Rattle.sheet.proofs.phases.read_body.Statement.{statement}
 use Rattle.sheet.proofs.phases.read_body.Tie as tie
@@ -19,7 +19,7 @@ part-read-acts-end c = omega (arith, c.before.before.before.before.before.read-b
 read-acts-requires : tie.Need-read-acts-requires
 read-acts-requires c κs = (
   c.before.before.before.before.before.before.before.before.before.before.before.requires.0.0,
-  few-done _ c.before.before.before.boxed.given.1 c.before.before.before.before.before.before.read-boxes.ensures.1,
+  few_done _ c.before.before.before.boxed.given.1 c.before.before.before.before.before.before.read-boxes.ensures.1,
   c.before.before.before.before.before.before.before.before.before.before.before.requires.0.5,
   omega (arith, length-take-le (c.before.before.before.before.before.before.before.before.before.before.before.args.boxes - 0) c.before.before.before.before.before.before.read-boxes.result.ids (omega (arith, c.before.before.before.before.before.before.read-boxes.ensures.2, c.before.before.before.before.before.before.before.before.before.before.before.requires.0.6)), c.before.before.before.before.before.before.before.before.before.before.before.requires.0.6),
 )
@@ -33,16 +33,16 @@ part-read-drawing-end c = omega (arith, c.before.before.before.before.before.bef
 
 read-drawing-requires : tie.Need-read-drawing-requires
 read-drawing-requires c κs = (
-  (c.before.before.before.before.before.before.before.before.before.before.before.before.before.before.before.before.before.before.before.before.before.requires.0.0, few-done _ c.before.before.before.before.before.before.acted.given.1 c.before.before.before.before.before.before.before.before.before.read-acts.ensures.1, c.before.before.before.before.before.before.before.before.before.before.before.before.before.before.before.before.before.before.before.before.before.requires.0.2, c.before.before.before.before.before.before.before.before.before.before.before.before.before.before.before.before.before.before.before.before.before.requires.0.3, c.before.before.before.before.before.before.before.before.before.before.before.before.before.before.before.before.before.before.before.before.before.requires.0.4, c.before.before.before.before.before.before.before.before.before.before.before.before.before.before.before.before.before.before.before.before.before.requires.0.5),
+  (c.before.before.before.before.before.before.before.before.before.before.before.before.before.before.before.before.before.before.before.before.before.requires.0.0, few_done _ c.before.before.before.before.before.before.acted.given.1 c.before.before.before.before.before.before.before.before.before.read-acts.ensures.1, c.before.before.before.before.before.before.before.before.before.before.before.before.before.before.before.before.before.before.before.before.before.requires.0.2, c.before.before.before.before.before.before.before.before.before.before.before.before.before.before.before.before.before.before.before.before.before.requires.0.3, c.before.before.before.before.before.before.before.before.before.before.before.before.before.before.before.before.before.before.before.before.before.requires.0.4, c.before.before.before.before.before.before.before.before.before.before.before.before.before.before.before.before.before.before.before.before.before.requires.0.5),
   (omega (arith, length-take-le (c.before.before.before.before.before.before.before.before.before.before.before.before.before.before.before.before.before.before.before.before.before.args.boxes - 0) c.before.before.before.before.before.before.before.before.before.before.before.before.before.before.before.before.read-boxes.result.ids (omega (arith, c.before.before.before.before.before.before.before.before.before.before.before.before.before.before.before.before.read-boxes.ensures.2, c.before.before.before.before.before.before.before.before.before.before.before.before.before.before.before.before.before.before.before.before.before.requires.0.6)), c.before.before.before.before.before.before.before.before.before.before.before.before.before.before.before.before.before.before.before.before.before.requires.0.6), c.before.before.before.before.before.before.before.before.before.before.before.before.before.before.before.before.before.before.before.before.before.requires.1.0, c.before.before.before.before.before.before.before.before.before.before.before.before.before.before.before.before.before.before.before.before.before.requires.1.1, c.before.before.before.before.before.before.before.before.before.before.before.before.before.before.before.before.before.before.before.before.before.requires.1.2),
 )
 
 returns-3 : tie.Need-returns-3
 unfolding parts
-returns-3 c = rw (← c.before.before.before.before.before.before.before.before.before.before.before.before.before.before.before.before.before.before.before.before.before.before.before.before.read-boxes.ensures.0, c.before.before.before.before.before.before.before.before.before.before.before.before.before.before.before.before.before.before.before.before.before.boxed.given.1, ← sub-zero c.before.before.before.before.before.before.before.before.before.before.before.before.before.before.before.before.before.before.before.before.before.before.before.before.before.before.before.before.before.args.boxes, ← c.before.before.before.before.before.before.before.before.before.before.before.before.before.before.before.before.before.read-acts.ensures.0, c.before.before.before.before.before.before.before.before.before.before.before.before.before.before.acted.given.1, ← c.before.before.before.before.before.before.before.read-drawing.ensures.0) (chain-last c.before.before.before.before.before.before.before.read-drawing.result.phase _ _ (partsAs _ _))
+returns-3 c = rw (← c.before.before.before.before.before.before.before.before.before.before.before.before.before.before.before.before.before.before.before.before.before.before.before.before.read-boxes.ensures.0, c.before.before.before.before.before.before.before.before.before.before.before.before.before.before.before.before.before.before.before.before.before.boxed.given.1, ← sub-zero c.before.before.before.before.before.before.before.before.before.before.before.before.before.before.before.before.before.before.before.before.before.before.before.before.before.before.before.before.before.args.boxes, ← c.before.before.before.before.before.before.before.before.before.before.before.before.before.before.before.before.before.read-acts.ensures.0, c.before.before.before.before.before.before.before.before.before.before.before.before.before.before.acted.given.1, ← c.before.before.before.before.before.before.before.read-drawing.ensures.0) (chain_last c.before.before.before.before.before.before.before.read-drawing.result.phase _ _ (parts_as _ _))
 
-pub read-body-spec : {M : Type 1} → statement M
-read-body-spec =
+pub read_body_spec : {M : Type 1} → statement M
+read_body_spec =
     tie.close
     (tie.spec
     (λ c κs. search rules) (λ c. search rules) (λ c. search rules)

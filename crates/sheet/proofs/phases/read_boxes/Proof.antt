@@ -9,15 +9,15 @@ use lib.Seq.{length-take-le}
 use Rattle.model.specs.Limits.{BOXES}
 use Rattle.text.specs.Lines.{lines}
 use Rattle.sheet.specs.declared.Record.{Record}
-use Rattle.sheet.specs.Records.{boxLine}
+use Rattle.sheet.specs.Records.{box_line}
 use Rattle.sheet.specs.Phases.{boxes}
-use Rattle.sheet.proofs.Going.{Going, start, over, stopped, took, line-fits}
+use Rattle.sheet.proofs.Going.{Going, start, over, stopped, took, line_fits}
 use borrow.Author.Rules.{rules}
 use Rattle.sheet.proofs.phases.read_boxes.Statement.{statement}
 use Rattle.sheet.proofs.phases.read_boxes.Tie as tie
 
 abbrev due : ℕ → List ℕ → List ℕ → Record
-due k ids = boxLine (take k ids)
+due k ids = box_line (take k ids)
 
 abbrev kept : ℕ → List ℕ → ℕ → ℕ → ℕ → ℕ → List ℕ
 kept k ids id _ _ _ = set ids k id
@@ -43,7 +43,7 @@ returns : tie.Need-returns invariant-loop decreases-loop
 returns c = (stopped c.before.before.before.before.before.before.before.loop.invariant.going (omega arith) _ (rw sub-zero at (sym c.before.before.before.take-due.ensures ∙ c.before.number.given.1)), tt, c.before.before.before.before.before.before.before.loop.invariant.room)
 
 add-line : tie.Need-overflow-add-line invariant-loop decreases-loop
-add-line c = omega (arith, line-fits c.before.before.before.before.before.before.before.loop.invariant.going (omega arith) (rw sub-zero at (sym c.before.before.before.take-due.ensures ∙ c.before.id.given.1)))
+add-line c = omega (arith, line_fits c.before.before.before.before.before.before.before.loop.invariant.going (omega arith) (rw sub-zero at (sym c.before.before.before.take-due.ensures ∙ c.before.id.given.1)))
 
 loop-again : tie.Need-loop-preserved invariant-loop decreases-loop
 loop-again c = record { small = c.before.before.before.before.before.before.before.loop.invariant.small; room = simp length-set c.before.before.before.before.before.before.before.loop.invariant.room; going = took c.before.before.before.before.before.before.before.loop.invariant.going (omega arith) (rw sub-zero at (sym c.before.before.before.take-due.ensures ∙ c.before.id.given.1)) }
@@ -51,8 +51,8 @@ loop-again c = record { small = c.before.before.before.before.before.before.befo
 returns-2 : tie.Need-returns-2 invariant-loop decreases-loop
 returns-2 c = (over c.before.loop.invariant.going (omega arith), c.before.loop.invariant.going.few, c.before.loop.invariant.room)
 
-pub read-boxes-spec : {M : Type 1} → statement M
-read-boxes-spec =
+pub read_boxes_spec : {M : Type 1} → statement M
+read_boxes_spec =
     tie.close
     (tie.spec
     invariant-loop

@@ -8,10 +8,10 @@ use native.Mathlib.Omega.{arith}
 use lib.ListN.{length, drop, replicate}
 use Rattle.model.specs.Limits.{BOXES}
 use Rattle.model.specs.Arrows.{selves}
-use Rattle.model.proofs.Arrows.{drawn-length, selves-length}
+use Rattle.model.proofs.Arrows.{drawn_length, selves_length}
 use Rattle.text.specs.Lines.{lines}
 use Rattle.sheet.specs.Phases.{flows}
-use Rattle.sheet.proofs.Arrows.{Flowing, over, arrow-other, arrow-bad, arrow-one, arrow-two, one_known, two-known, place_is}
+use Rattle.sheet.proofs.Arrows.{Flowing, over, arrow_other, arrow_bad, arrow_one, arrow_two, one_known, two_known, place_is}
 use borrow.Author.Rules.{rules}
 use Rattle.sheet.proofs.phases.read_flows.Statement.{statement}
 use Rattle.sheet.proofs.phases.read_flows.Tie as tie
@@ -27,16 +27,16 @@ abbrev decreases-loop : tie.decreases-loop
 decreases-loop text from first ids arrows₀ at₀ line₀ arrows at line = length text - at
 
 loop-holds : tie.Need-loop-init invariant-loop decreases-loop
-loop-holds c = record { few-ids = c.before.before.before.requires.2; flowing = record { closed = c.before.before.before.requires.0; few = c.before.before.before.requires.1; room = ap length c.self-arrows.ensures ∙ selves-length (length c.before.before.before.args.ids.now) (replicate BOXES 0); rest = rw c.self-arrows.ensures } }
+loop-holds c = record { few-ids = c.before.before.before.requires.2; flowing = record { closed = c.before.before.before.requires.0; few = c.before.before.before.requires.1; room = ap length c.self-arrows.ensures ∙ selves_length (length c.before.before.before.args.ids.now) (replicate BOXES 0); rest = rw c.self-arrows.ensures } }
 
 take-flow-requires : tie.Need-take-flow-requires invariant-loop decreases-loop
 take-flow-requires c κs = (c.before.loop.invariant.flowing.closed, c.loop-test.true, c.before.loop.invariant.few-ids)
 
 returns : tie.Need-returns invariant-loop decreases-loop
-returns c = (arrow-other c.before.before.before.before.loop.invariant.flowing (omega arith) (sym c.before.before.take-flow.ensures ∙ c.enum_told.given.1), c.before.before.before.before.loop.invariant.flowing.few)
+returns c = (arrow_other c.before.before.before.before.loop.invariant.flowing (omega arith) (sym c.before.before.take-flow.ensures ∙ c.enum_told.given.1), c.before.before.before.before.loop.invariant.flowing.few)
 
 returns-2 : tie.Need-returns-2 invariant-loop decreases-loop
-returns-2 c = (arrow-bad c.before.before.before.before.before.loop.invariant.flowing (omega arith) _ (sym c.before.before.before.take-flow.ensures ∙ c.before.number.given.1), tt)
+returns-2 c = (arrow_bad c.before.before.before.before.before.loop.invariant.flowing (omega arith) _ (sym c.before.before.before.take-flow.ensures ∙ c.before.number.given.1), tt)
 
 draw-requires : tie.Need-draw-requires invariant-loop decreases-loop
 draw-requires c κs =
@@ -47,14 +47,14 @@ draw-requires c κs =
 draw-requires-2 : tie.Need-draw-requires-2 invariant-loop decreases-loop
 draw-requires-2 c κs =
     let l = c.before.before.before.before.before.before.loop in
-    let k = two-known c.before.before.before.before.before.before.before.before.before.before.args.ids.now _ _ (sym c.before.before.before.before.take-flow.ensures ∙ c.before.before.v2.given.1) in
+    let k = two_known c.before.before.before.before.before.before.before.before.before.before.args.ids.now _ _ (sym c.before.before.before.before.take-flow.ensures ∙ c.before.before.v2.given.1) in
     (l.invariant.flowing.room, omega (arith, k, l.invariant.few-ids), omega (arith, k, l.invariant.few-ids))
 
 draw-requires-3 : tie.Need-draw-requires-3 invariant-loop decreases-loop
 draw-requires-3 c κs =
     let l = c.before.before.before.before.before.before.before.before.loop in
-    let k = two-known c.before.before.before.before.before.before.before.before.before.before.before.before.args.ids.now _ _ (sym c.before.before.before.before.before.before.take-flow.ensures ∙ c.before.before.before.before.v2.given.1) in
-    (ap length c.before.draw2.ensures ∙ drawn-length _ _ l.arrows ∙ l.invariant.flowing.room, omega (arith, k, l.invariant.few-ids), omega (arith, k, l.invariant.few-ids))
+    let k = two_known c.before.before.before.before.before.before.before.before.before.before.before.before.args.ids.now _ _ (sym c.before.before.before.before.before.before.take-flow.ensures ∙ c.before.before.before.before.v2.given.1) in
+    (ap length c.before.draw2.ensures ∙ drawn_length _ _ l.arrows ∙ l.invariant.flowing.room, omega (arith, k, l.invariant.few-ids), omega (arith, k, l.invariant.few-ids))
 
 loop-less : tie.Need-loop-smaller invariant-loop decreases-loop
 loop-less c = ⊎_elim
@@ -64,15 +64,15 @@ loop-less c = ⊎_elim
 
 loop-again : tie.Need-loop-preserved invariant-loop decreases-loop
 loop-again c = ⊎_elim
-    (λ w. rw (w.5, w.6) (rw w.4.ensures (record { few-ids = c.before.before.before.loop.invariant.few-ids; flowing = arrow-one c.before.before.before.loop.invariant.flowing (omega arith) _ _ _ (sym c.before.take-flow.ensures ∙ w.1.given.1) })))
-    (λ w. rw (w.7, w.8) (rw (w.6.ensures, w.4.ensures) (record { few-ids = c.before.before.before.loop.invariant.few-ids; flowing = arrow-two c.before.before.before.loop.invariant.flowing (omega arith) _ _ _ (sym c.before.take-flow.ensures ∙ w.1.given.1) })))
+    (λ w. rw (w.5, w.6) (rw w.4.ensures (record { few-ids = c.before.before.before.loop.invariant.few-ids; flowing = arrow_one c.before.before.before.loop.invariant.flowing (omega arith) _ _ _ (sym c.before.take-flow.ensures ∙ w.1.given.1) })))
+    (λ w. rw (w.7, w.8) (rw (w.6.ensures, w.4.ensures) (record { few-ids = c.before.before.before.loop.invariant.few-ids; flowing = arrow_two c.before.before.before.loop.invariant.flowing (omega arith) _ _ _ (sym c.before.take-flow.ensures ∙ w.1.given.1) })))
     c.match.branch
 
 returns-3 : tie.Need-returns-3 invariant-loop decreases-loop
 returns-3 c = (over c.before.loop.invariant.flowing (omega arith), c.before.loop.invariant.flowing.few)
 
-pub read-flows-spec : {M : Type 1} → statement M
-read-flows-spec =
+pub read_flows_spec : {M : Type 1} → statement M
+read_flows_spec =
     tie.close
     (tie.spec
     invariant-loop

@@ -5,30 +5,30 @@ use mathlib.Core.List.{List}
 use native.Mathlib.Omega.{arith}
 use native.Mathlib.Nat.{mul-le-mul}
 use lib.ListN.{length, drop, set, length-set}
-use Rattle.model.specs.Limits.{STATES, BOXES, NEXT-ENTRIES, OUTPUT-ENTRIES}
+use Rattle.model.specs.Limits.{STATES, BOXES, NEXT_ENTRIES, OUTPUT_ENTRIES}
 use Rattle.text.specs.Lines.{lines}
 use Rattle.sheet.specs.declared.Record.{Record}
-use Rattle.sheet.specs.Records.{goLine}
+use Rattle.sheet.specs.Records.{go_line}
 use Rattle.sheet.specs.Phases.{Steps, steps, goes}
-use Rattle.sheet.proofs.Going.{Going, start, over, stopped, took, said, line-fits}
-use Rattle.sheet.proofs.Good.{go-good}
+use Rattle.sheet.proofs.Going.{Going, start, over, stopped, took, said, line_fits}
+use Rattle.sheet.proofs.Good.{go_good}
 use borrow.Author.Rules.{rules}
 use Rattle.sheet.proofs.phases.read_goes.Statement.{statement}
 use Rattle.sheet.proofs.phases.read_goes.Tie as tie
 
 abbrev due : ℕ → ℕ → ℕ → Steps → List ℕ → Record
-due states actions k _ = goLine states (k / actions) (k % actions)
+due states actions k _ = go_line states (k / actions) (k % actions)
 
 abbrev kept : ℕ → Steps → ℕ → ℕ → ℕ → ℕ → Steps
 kept k t _ _ next output = steps (set t.next k next) (set t.outputs k output)
 
 record At (t : List ℕ) (from first states actions : ℕ) (ids next₀ outputs₀ : List ℕ) (total : ℕ) (next outputs : List ℕ) (at n k : ℕ) : Type 0 where
   some : 0 < actions
-  states-most : states ≤ STATES
-  small : total ≤ NEXT-ENTRIES
+  states_most : states ≤ STATES
+  small : total ≤ NEXT_ENTRIES
   few-ids : length ids ≤ BOXES
-  next-room : length next₀ ≡ NEXT-ENTRIES
-  outputs-room : length outputs₀ ≡ OUTPUT-ENTRIES
+  next-room : length next₀ ≡ NEXT_ENTRIES
+  outputs-room : length outputs₀ ≡ OUTPUT_ENTRIES
   next-length : length next ≡ length next₀
   outputs-length : length outputs ≡ length outputs₀
   going : Going (due states actions) kept t (goes states actions (steps next₀ outputs₀) (lines (drop from t)) first) total k (steps next outputs) at n
@@ -45,7 +45,7 @@ mul-total c = omega (arith, mul-le-mul c.before.before.before.before.requires.0.
 loop-holds : tie.Need-loop-init invariant-loop decreases-loop
 loop-holds c = record {
   some = c.before.before.before.before.requires.0.2;
-  states-most = c.before.before.before.before.requires.0.3;
+  states_most = c.before.before.before.before.requires.0.3;
   small = mul-le-mul c.before.before.before.before.requires.0.3 c.before.before.before.before.requires.0.4;
   few-ids = c.before.before.before.before.requires.1.0;
   next-room = c.before.before.before.before.requires.1.1;
@@ -62,18 +62,18 @@ returns : tie.Need-returns invariant-loop decreases-loop
 returns c = (stopped c.before.before.before.before.before.loop.invariant.going (omega arith) _ (sym c.before.before.before.take-go.ensures ∙ c.before.number.given.1), tt)
 
 cast-next : tie.Need-overflow-cast-next invariant-loop decreases-loop
-cast-next c = omega (arith, go-good _ _ _ _ (said c.before.before.before.before.before.loop.invariant.going (omega arith) (sym c.before.before.before.take-go.ensures ∙ c.before.to.given.1)))
+cast-next c = omega (arith, go_good _ _ _ _ (said c.before.before.before.before.before.loop.invariant.going (omega arith) (sym c.before.before.before.take-go.ensures ∙ c.before.to.given.1)))
 
 cast-outputs : tie.Need-overflow-cast-outputs invariant-loop decreases-loop
-cast-outputs c = omega (arith, go-good _ _ _ _ (said c.before.before.before.before.before.loop.invariant.going (omega arith) (sym c.before.before.before.take-go.ensures ∙ c.before.to.given.1)))
+cast-outputs c = omega (arith, go_good _ _ _ _ (said c.before.before.before.before.before.loop.invariant.going (omega arith) (sym c.before.before.before.take-go.ensures ∙ c.before.to.given.1)))
 
 add-line : tie.Need-overflow-add-line invariant-loop decreases-loop
-add-line c = omega (arith, line-fits c.before.before.before.before.before.loop.invariant.going (omega arith) (sym c.before.before.before.take-go.ensures ∙ c.before.to.given.1))
+add-line c = omega (arith, line_fits c.before.before.before.before.before.loop.invariant.going (omega arith) (sym c.before.before.before.take-go.ensures ∙ c.before.to.given.1))
 
 loop-again : tie.Need-loop-preserved invariant-loop decreases-loop
 loop-again c = record {
   some = c.before.before.before.before.before.loop.invariant.some;
-  states-most = c.before.before.before.before.before.loop.invariant.states-most;
+  states_most = c.before.before.before.before.before.loop.invariant.states_most;
   small = c.before.before.before.before.before.loop.invariant.small;
   few-ids = c.before.before.before.before.before.loop.invariant.few-ids;
   next-room = c.before.before.before.before.before.loop.invariant.next-room;
@@ -86,8 +86,8 @@ loop-again c = record {
 returns-2 : tie.Need-returns-2 invariant-loop decreases-loop
 returns-2 c = (over c.before.loop.invariant.going (omega arith), c.before.loop.invariant.going.few)
 
-pub read-goes-spec : {M : Type 1} → statement M
-read-goes-spec =
+pub read_goes_spec : {M : Type 1} → statement M
+read_goes_spec =
     tie.close
     (tie.spec
     invariant-loop

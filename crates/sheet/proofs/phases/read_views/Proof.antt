@@ -5,19 +5,19 @@ use mathlib.Core.List.{List}
 use native.Mathlib.Omega.{arith}
 use native.Mathlib.Nat.{div-le_self, div-lt_iff_lt-mul, mul-le-mul}
 use lib.ListN.{length, get_or, drop, set, length-set}
-use Rattle.model.specs.Limits.{BOXES, VIEW-ENTRIES}
+use Rattle.model.specs.Limits.{BOXES, VIEW_ENTRIES}
 use Rattle.text.specs.Lines.{lines}
 use Rattle.sheet.specs.declared.Record.{Record}
-use Rattle.sheet.specs.Records.{viewLine}
+use Rattle.sheet.specs.Records.{view_line}
 use Rattle.sheet.specs.Phases as phases
-use Rattle.sheet.proofs.Going.{Going, start, over, stopped, took, said, line-fits}
-use Rattle.sheet.proofs.Good.{view-good}
+use Rattle.sheet.proofs.Going.{Going, start, over, stopped, took, said, line_fits}
+use Rattle.sheet.proofs.Good.{view_good}
 use borrow.Author.Rules.{rules}
 use Rattle.sheet.proofs.phases.read_views.Statement.{statement}
 use Rattle.sheet.proofs.phases.read_views.Tie as tie
 
 abbrev due : List ℕ → ℕ → ℕ → List ℕ → List ℕ → Record
-due ids states k _ = viewLine (get_or ids (k / states) 0) (k % states)
+due ids states k _ = view_line (get_or ids (k / states) 0) (k % states)
 
 abbrev kept : ℕ → List ℕ → ℕ → ℕ → ℕ → ℕ → List ℕ
 kept k t _ _ class _ = set t k class
@@ -25,9 +25,9 @@ kept k t _ _ class _ = set t k class
 record At (t : List ℕ) (from first states : ℕ) (ids views₀ : List ℕ) (total : ℕ) (views : List ℕ) (at n k : ℕ) : Type 0 where
   some : 0 < states
   total-is : total ≡ length ids * states
-  small : total ≤ VIEW-ENTRIES
+  small : total ≤ VIEW_ENTRIES
   few-ids : length ids ≤ BOXES
-  room : length views₀ ≡ VIEW-ENTRIES
+  room : length views₀ ≡ VIEW_ENTRIES
   same_length : length views ≡ length views₀
   going : Going (due ids states) kept t (phases.views ids states views₀ (lines (drop from t)) first) total k views at n
 
@@ -67,10 +67,10 @@ returns : tie.Need-returns invariant-loop decreases-loop
 returns c = (stopped c.before.before.before.before.before.before.loop.invariant.going (omega arith) _ (sym c.before.before.before.take-view.ensures ∙ c.before.number.given.1), tt)
 
 cast-views : tie.Need-overflow-cast-views invariant-loop decreases-loop
-cast-views c = omega (arith, view-good _ _ _ (said c.before.before.before.before.before.before.loop.invariant.going (omega arith) (sym c.before.before.before.take-view.ensures ∙ c.before.class.given.1)))
+cast-views c = omega (arith, view_good _ _ _ (said c.before.before.before.before.before.before.loop.invariant.going (omega arith) (sym c.before.before.before.take-view.ensures ∙ c.before.class.given.1)))
 
 add-line : tie.Need-overflow-add-line invariant-loop decreases-loop
-add-line c = omega (arith, line-fits c.before.before.before.before.before.before.loop.invariant.going (omega arith) (sym c.before.before.before.take-view.ensures ∙ c.before.class.given.1))
+add-line c = omega (arith, line_fits c.before.before.before.before.before.before.loop.invariant.going (omega arith) (sym c.before.before.before.take-view.ensures ∙ c.before.class.given.1))
 
 loop-again : tie.Need-loop-preserved invariant-loop decreases-loop
 loop-again c = record {
@@ -86,8 +86,8 @@ loop-again c = record {
 returns-2 : tie.Need-returns-2 invariant-loop decreases-loop
 returns-2 c = (over c.before.loop.invariant.going (omega arith), c.before.loop.invariant.going.few)
 
-pub read-views-spec : {M : Type 1} → statement M
-read-views-spec =
+pub read_views_spec : {M : Type 1} → statement M
+read_views_spec =
     tie.close
     (tie.spec
     invariant-loop

@@ -7,7 +7,7 @@ use native.Mathlib.Numerals.{add-one}
 use lib.ListN.{length, replicate, length-replicate}
 use Rattle.model.specs.Limits.{BOXES}
 use Rattle.model.specs.Arrows.{drawn, selves}
-use Rattle.model.proofs.Arrows.{selves-length}
+use Rattle.model.proofs.Arrows.{selves_length}
 use borrow.Author.Rules.{rules}
 use Rattle.sheet.proofs.phases.self_arrows.Statement.{statement}
 use Rattle.sheet.proofs.phases.self_arrows.Tie as tie
@@ -25,7 +25,7 @@ loop-holds c = (c.requires, omega arith, refl)
 draw-requires : tie.Need-draw-requires invariant-loop decreases-loop
 draw-requires c κs =
     let l = c.before.before.loop in
-    (ap length l.invariant.2 ∙ selves-length l.k (replicate BOXES 0) ∙ length-replicate {A = ℕ} BOXES 0, omega arith, omega arith)
+    (ap length l.invariant.2 ∙ selves_length l.k (replicate BOXES 0) ∙ length-replicate {A = ℕ} BOXES 0, omega arith, omega arith)
 
 loop-again : tie.Need-loop-preserved invariant-loop decreases-loop
 unfolding selves
@@ -36,8 +36,8 @@ loop-again c =
 returns : tie.Need-returns invariant-loop decreases-loop
 returns c = let e : c.before.loop.k ≡ c.before.before.args.boxes = omega arith in c.before.loop.invariant.2 ∙ rw e
 
-pub self-arrows-spec : {M : Type 1} → statement M
-self-arrows-spec =
+pub self_arrows_spec : {M : Type 1} → statement M
+self_arrows_spec =
     tie.close
     (tie.spec
     invariant-loop

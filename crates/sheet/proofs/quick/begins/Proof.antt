@@ -5,7 +5,7 @@ use mathlib.Core.List.{List, ◌++◌}
 use native.Mathlib.Omega.{arith}
 use lib.ListN.{length, get_or, take, drop}
 use Rattle.text.specs.Lines.{before, Ended}
-use Rattle.text.proofs.Parts.{before-hit}
+use Rattle.text.proofs.Parts.{before_hit}
 use Rattle.sheet.proofs.OnePass.{not_last, word_more, word_end}
 use borrow.Author.Rules.{rules}
 use Rattle.sheet.proofs.quick.begins.Statement.{statement}
@@ -26,7 +26,7 @@ again {t} {w} {at} {i} p h e = record {
   closed = p.closed;
   free = p.free;
   within =
-      (let n = not_last p.closed (at + i) p.within (λ k. let b = before-hit 10 w i h (sym e ∙ k) in omega (arith, p.free)) in omega arith);
+      (let n = not_last p.closed (at + i) p.within (λ k. let b = before_hit 10 w i h (sym e ∙ k) in omega (arith, p.free)) in omega arith);
   below = omega arith;
   here = word_more t w at i p.within h e p.here;
 }
@@ -49,8 +49,8 @@ returns-3 c =
     let e : c.before.before.loop.i ≡ length c.before.before.before.before.args.word.now = omega arith in
     rw e (word_end _ c.before.before.before.before.args.word.now _ (rw e at p.within) (rw e at p.here))
 
-pub begins-spec : {M : Type 1} → statement M
-begins-spec =
+pub begins_spec : {M : Type 1} → statement M
+begins_spec =
     tie.close
     (tie.spec
     invariant-loop

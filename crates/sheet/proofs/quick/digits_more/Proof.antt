@@ -5,10 +5,10 @@ use mathlib.Core.List.{List}
 use native.Mathlib.Omega.{arith}
 use lib.ListN.{length}
 use Rattle.text.specs.Lines.{Ended}
-use Rattle.text.proofs.Digits.{digit-some}
+use Rattle.text.proofs.Digits.{digit_some}
 use Rattle.sheet.specs.declared.Digits.{Digits}
 use Rattle.sheet.specs.OnePass.{MoreRead}
-use Rattle.sheet.proofs.OnePass.{after-digit, more-one}
+use Rattle.sheet.proofs.OnePass.{after_digit, more_one}
 use borrow.Author.Rules.{rules}
 use Rattle.sheet.proofs.quick.digits_more.Statement.{statement}
 use Rattle.sheet.proofs.quick.digits_more.Tie as tie
@@ -40,13 +40,13 @@ loop-again c =
     let l = c.before.before.before.before.before.loop.invariant in
     record {
       closed = l.closed;
-      within = after-digit l.closed _ _ _ _ l.within g;
-      some = digit-some _ _ _ _ g l.some;
-      back = λ r p. l.back r (more-one _ _ _ l.within _ refl _ _ _ l.some g r p);
+      within = after_digit l.closed _ _ _ _ l.within g;
+      some = digit_some _ _ _ _ g l.some;
+      back = λ r p. l.back r (more_one _ _ _ l.within _ refl _ _ _ l.some g r p);
     }
 
-pub digits-more-spec : {M : Type 1} → statement M
-digits-more-spec =
+pub digits_more_spec : {M : Type 1} → statement M
+digits_more_spec =
     tie.close
     (tie.spec
     invariant-loop

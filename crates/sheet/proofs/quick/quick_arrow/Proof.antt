@@ -17,12 +17,12 @@ returns-5 c = record {
   second = number_at _ _ _ _ c.before.before.before.before.before.before.before.digits-from2.result c.before.before.before.before.before.to.given.1 c.before.before.before.before.before.before.before.digits-from2.ensures;
   from_is = c.before.before.before.position.ensures;
   to_is = c.before.position2.ensures;
-  from-known = omega arith;
-  to-known = omega arith;
+  from_known = omega arith;
+  to_known = omega arith;
 }
 
-pub quick-arrow-spec : {M : Type 1} → statement M
-quick-arrow-spec =
+pub quick_arrow_spec : {M : Type 1} → statement M
+quick_arrow_spec =
     tie.close
     (tie.spec
     (λ c κs. search rules) (λ c. search rules) (λ c. search rules) (λ c. search rules)

@@ -4,7 +4,7 @@ use mathlib.Core.Path.{refl}
 use native.Mathlib.Omega.{arith}
 use Rattle.text.specs.Lines.{before}
 use Rattle.sheet.specs.Words as words
-use Rattle.sheet.proofs.OnePass.{goes_on, number_at, word_at, ends, onward, line_of, quick-go}
+use Rattle.sheet.proofs.OnePass.{goes_on, number_at, word_at, ends, onward, line_of, quick_go}
 use borrow.Author.Rules.{rules}
 use Rattle.sheet.proofs.quick.quick_go.Statement.{statement}
 use Rattle.sheet.proofs.quick.quick_go.Tie as tie
@@ -30,13 +30,13 @@ digits-from-requires-4 c κs = (c.before.before.before.before.before.before.befo
 
 returns-8 : tie.Need-returns-8
 returns-8 c =
-    quick-go _ _ _
+    quick_go _ _ _
     (line_of (omega arith, (omega arith, tt)) (word_at _ words.go _ _ c.before.before.before.before.before.before.before.before.before.before.before.before.before.before.before.before.before.before.before.before.begins.result c.before.before.before.before.before.before.before.before.before.before.before.before.before.before.before.before.before.before.before.if1.true c.before.before.before.before.before.before.before.before.before.before.before.before.before.before.before.before.before.before.before.before.begins.ensures (omega arith))
     (onward (number_at _ _ _ _ c.before.before.before.before.before.before.before.before.before.before.before.before.before.before.before.before.before.before.digits_from.result c.before.before.before.before.before.before.before.before.before.before.before.before.before.before.before.before.s.given.1 c.before.before.before.before.before.before.before.before.before.before.before.before.before.before.before.before.before.before.digits_from.ensures) (onward (number_at _ _ _ _ c.before.before.before.before.before.before.before.before.before.before.before.before.before.digits-from2.result c.before.before.before.before.before.before.before.before.before.before.before.a.given.1 c.before.before.before.before.before.before.before.before.before.before.before.before.before.digits-from2.ensures) (onward (number_at _ _ _ _ c.before.before.before.before.before.before.before.before.digits-from3.result c.before.before.before.before.before.before.next.given.1 c.before.before.before.before.before.before.before.before.digits-from3.ensures) (ends (number_at _ _ _ _ c.before.before.before.digits-from4.result c.before.output.given.1 c.before.before.before.digits-from4.ensures))))))
     c.before.before.before.before.before.before.before.before.before.before.before.before.before.before.if2.false c.before.before.before.before.before.before.before.before.before.if3.false c.before.before.before.before.if4.false
 
-pub quick-go-spec : {M : Type 1} → statement M
-quick-go-spec =
+pub quick_go_spec : {M : Type 1} → statement M
+quick_go_spec =
     tie.close
     (tie.spec
     (λ c. search rules)

@@ -4,7 +4,7 @@ use mathlib.Core.Path.{refl}
 use native.Mathlib.Omega.{arith}
 use Rattle.text.specs.Lines.{before}
 use Rattle.sheet.specs.Words as words
-use Rattle.sheet.proofs.OnePass.{goes_on, number_at, word_at, ends, onward, line_of, quick-view}
+use Rattle.sheet.proofs.OnePass.{goes_on, number_at, word_at, ends, onward, line_of, quick_view}
 use borrow.Author.Rules.{rules}
 use Rattle.sheet.proofs.quick.quick_view.Statement.{statement}
 use Rattle.sheet.proofs.quick.quick_view.Tie as tie
@@ -27,13 +27,13 @@ digits-from-requires-3 c κs = (c.before.before.before.before.before.before.befo
 
 returns-6 : tie.Need-returns-6
 returns-6 c =
-    quick-view _ _
+    quick_view _ _
     (line_of (omega arith, (omega arith, (omega arith, (omega arith, tt)))) (word_at _ words.view _ _ c.before.before.before.before.before.before.before.before.before.before.before.before.before.before.before.begins.result c.before.before.before.before.before.before.before.before.before.before.before.before.before.before.if1.true c.before.before.before.before.before.before.before.before.before.before.before.before.before.before.before.begins.ensures (omega arith))
     (onward (number_at _ _ _ _ c.before.before.before.before.before.before.before.before.before.before.before.before.before.digits_from.result c.before.before.before.before.before.before.before.before.before.before.before.i.given.1 c.before.before.before.before.before.before.before.before.before.before.before.before.before.digits_from.ensures) (onward (number_at _ _ _ _ c.before.before.before.before.before.before.before.before.digits-from2.result c.before.before.before.before.before.before.s.given.1 c.before.before.before.before.before.before.before.before.digits-from2.ensures) (ends (number_at _ _ _ _ c.before.before.before.digits-from3.result c.before.class.given.1 c.before.before.before.digits-from3.ensures)))))
     c.before.before.before.before.before.before.before.before.before.if2.false c.before.before.before.before.if3.false
 
-pub quick-view-spec : {M : Type 1} → statement M
-quick-view-spec =
+pub quick_view_spec : {M : Type 1} → statement M
+quick_view_spec =
     tie.close
     (tie.spec
     (λ c. search rules)

@@ -3,7 +3,7 @@
 use Prim.Native.Nat.{◌≤◌, ◌-◌}
 use native.Mathlib.Omega.{arith}
 use Rattle.views.specs.Guards.{Alones}
-use Rattle.views.proofs.Calm.{alones-none, alones-more}
+use Rattle.views.proofs.Calm.{alones_none, alones_more}
 use Rattle.views.proofs.guards.alones.Statement.{statement}
 use Rattle.views.proofs.guards.alones.Tie as tie
 
@@ -14,18 +14,18 @@ abbrev decreases-boxes : tie.decreases-boxes
 decreases-boxes low states boxes alones₀ u₀ alones u = boxes - u
 
 boxes-holds : tie.Need-boxes-init invariant-boxes decreases-boxes
-boxes-holds c = (omega arith, alones-none _ _)
+boxes-holds c = (omega arith, alones_none _ _)
 
 boxes-again : tie.Need-boxes-preserved invariant-boxes decreases-boxes
 boxes-again c =
     let c2 = c.before.before in
-    (omega arith, alones-more c2.boxes.invariant.1 (omega arith) c.alone.ensures)
+    (omega arith, alones_more c2.boxes.invariant.1 (omega arith) c.alone.ensures)
 
 returns : tie.Need-returns invariant-boxes decreases-boxes
 returns c = c.before.boxes.invariant.1
 
-pub alones-spec : {M : Type 1} → statement M
-alones-spec =
+pub alones_spec : {M : Type 1} → statement M
+alones_spec =
     tie.close
     (tie.spec
     invariant-boxes

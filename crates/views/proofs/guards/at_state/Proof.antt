@@ -32,8 +32,8 @@ shared-slice-read-broad c =
     let h = cell STATES ACTIONS p.1.2 (le_refl STATES) p.1.1 p.1.0 in
     omega (arith, p.0)
 
-pub at-state-spec : {M : Type 1} → statement M
-at-state-spec =
+pub at_state_spec : {M : Type 1} → statement M
+at_state_spec =
     tie.close
     (tie.spec
     mul-broad

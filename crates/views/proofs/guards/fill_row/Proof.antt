@@ -4,7 +4,7 @@ use Prim.Native.Nat.{◌≤◌, ◌-◌, ℕ}
 use native.Mathlib.Omega.{arith}
 use lib.ListN.{length-replicate}
 use Rattle.views.specs.Guards.{SLOTS, Slots, Others, Filled}
-use Rattle.views.proofs.Lows.{slots-none, others-none, filled_more, filled_row}
+use Rattle.views.proofs.Lows.{slots_none, others_none, filled_more, filled_row}
 use Rattle.views.proofs.guards.fill_row.Statement.{statement}
 use Rattle.views.proofs.guards.fill_row.Tie as tie
 
@@ -15,7 +15,7 @@ abbrev decreases-states : tie.decreases-states
 decreases-states views low₀ states u slots₀ others₀ s₀ low slots others s = states - s
 
 states-holds : tie.Need-states-init invariant-states decreases-states
-states-holds c = (omega arith, slots-none _ _ _ _ (length-replicate {A = ℕ} SLOTS 255), others-none _ _ _ _ _ (length-replicate {A = ℕ} SLOTS 255), c.before.requires.0)
+states-holds c = (omega arith, slots_none _ _ _ _ (length-replicate {A = ℕ} SLOTS 255), others_none _ _ _ _ _ (length-replicate {A = ℕ} SLOTS 255), c.before.requires.0)
 
 first-alike-requires : tie.Need-first-alike-requires invariant-states decreases-states
 first-alike-requires c κs =
@@ -41,8 +41,8 @@ states-again c =
 returns : tie.Need-returns invariant-states decreases-states
 returns c = filled_row c.before.states.invariant.3 c.states-test.false
 
-pub fill-row-spec : {M : Type 1} → statement M
-fill-row-spec =
+pub fill_row_spec : {M : Type 1} → statement M
+fill_row_spec =
     tie.close
     (tie.spec
     invariant-states

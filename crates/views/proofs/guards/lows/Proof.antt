@@ -2,7 +2,7 @@
 use Prim.Native.Nat.{◌≤◌, ◌-◌}
 use native.Mathlib.Omega.{arith}
 use Rattle.views.specs.Guards.{Filled}
-use Rattle.views.proofs.Lows.{filled_none, filled-all}
+use Rattle.views.proofs.Lows.{filled_none, filled_all}
 use Rattle.views.proofs.guards.lows.Statement.{statement}
 use Rattle.views.proofs.guards.lows.Tie as tie
 
@@ -22,10 +22,10 @@ boxes-again : tie.Need-boxes-preserved invariant-boxes decreases-boxes
 boxes-again c = (omega arith, c.fill-row.ensures)
 
 returns : tie.Need-returns invariant-boxes decreases-boxes
-returns c = filled-all c.before.boxes.invariant.1 c.boxes-test.false
+returns c = filled_all c.before.boxes.invariant.1 c.boxes-test.false
 
-pub lows-spec : {M : Type 1} → statement M
-lows-spec =
+pub lows_spec : {M : Type 1} → statement M
+lows_spec =
     tie.close
     (tie.spec
     invariant-boxes

@@ -4,7 +4,7 @@ use Prim.Native.Nat.{◌≤◌, ◌-◌}
 use native.Mathlib.Omega.{arith}
 use Rattle.model.specs.Limits.{BOXES}
 use Rattle.views.specs.Guards.{Kept}
-use Rattle.views.proofs.Calm.{idle-keeps, kept_more}
+use Rattle.views.proofs.Calm.{idle_keeps, kept_more}
 use Rattle.views.proofs.guards.note_idle.Statement.{statement}
 use Rattle.views.proofs.guards.note_idle.Tie as tie
 
@@ -21,13 +21,13 @@ boxes-again : tie.Need-boxes-preserved invariant-boxes decreases-boxes
 boxes-again c =
     let c2 = c.before.before in
     let p = c2.requires.1 in
-    (omega arith, kept_more c.before.boxes.invariant.1 c.boxes-test.true p.1 (idle-keeps _ _ p.0))
+    (omega arith, kept_more c.before.boxes.invariant.1 c.boxes-test.true p.1 (idle_keeps _ _ p.0))
 
 returns : tie.Need-returns invariant-boxes decreases-boxes
 returns c = c.before.boxes.invariant.1
 
-pub note-idle-spec : {M : Type 1} → statement M
-note-idle-spec =
+pub note_idle_spec : {M : Type 1} → statement M
+note_idle_spec =
     tie.close
     (tie.spec
     invariant-boxes

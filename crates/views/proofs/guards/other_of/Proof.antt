@@ -9,6 +9,6 @@ returns : tie.Need-returns
 unfolding other_of
 returns c = (refl, omega arith)
 
-pub other-of-spec : {M : Type 1} → statement M
-other-of-spec = tie.close (tie.spec
+pub other_of_spec : {M : Type 1} → statement M
+other_of_spec = tie.close (tie.spec
     returns)

@@ -6,7 +6,7 @@ use Rattle.views.proofs.guards.sends.Tie as tie
 returns : tie.Need-returns
 returns c = cc
 
-pub sends-spec : {M : Type 1} → statement M
-sends-spec = tie.close (tie.spec
+pub sends_spec : {M : Type 1} → statement M
+sends_spec = tie.close (tie.spec
     (λ c κs. search rules) (λ c κs. search rules)
     returns)

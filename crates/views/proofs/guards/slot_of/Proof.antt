@@ -10,7 +10,7 @@ returns : tie.Need-returns
 unfolding slot_of
 returns c = (refl, omega arith)
 
-pub slot-of-spec : {M : Type 1} → statement M
-slot-of-spec = tie.close (tie.spec
+pub slot_of_spec : {M : Type 1} → statement M
+slot_of_spec = tie.close (tie.spec
     (λ c. search rules)
     returns)

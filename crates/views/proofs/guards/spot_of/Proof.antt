@@ -23,8 +23,8 @@ returns c =
     let k = low_small _ _ c2.requires.0 c.low-of2.ensures in
     (cc, omega arith)
 
-pub spot-of-spec : {M : Type 1} → statement M
-spot-of-spec = tie.close (tie.spec
+pub spot_of_spec : {M : Type 1} → statement M
+spot_of_spec = tie.close (tie.spec
     (λ c κs. search rules)
     mul-result
     (λ c κs. search rules)

@@ -3,9 +3,9 @@
 use Prim.Native.Nat.{◌≤◌, ◌-◌}
 use native.Mathlib.Omega.{arith}
 use mathlib.Core.Path.{refl}
-use Rattle.laws.proofs.Tests.{not-both}
+use Rattle.laws.proofs.Tests.{not_both}
 use Rattle.views.specs.Guards.{Idle}
-use Rattle.views.proofs.Calm.{idle-none, idle-more, idle-all}
+use Rattle.views.proofs.Calm.{idle_none, idle_more, idle_all}
 use Rattle.views.proofs.guards.stirs.Statement.{statement}
 use Rattle.views.proofs.guards.stirs.Tie as tie
 
@@ -16,27 +16,27 @@ abbrev decreases-states : tie.decreases-states
 decreases-states next states actions a s₀ s = states - s
 
 states-holds : tie.Need-states-init invariant-states decreases-states
-states-holds c = (omega arith, idle-none _ _ _)
+states-holds c = (omega arith, idle_none _ _ _)
 
 at-state-requires : tie.Need-at-state-requires invariant-states decreases-states
 at-state-requires c κs =
     let c3 = c.before.before.before in
     let n = c3.requires.0 in
-    (n.size, (n.actions-most, c3.requires.1, omega (arith, n.states-most)))
+    (n.size, (n.actions_most, c3.requires.1, omega (arith, n.states_most)))
 
 returns : tie.Need-returns invariant-states decreases-states
-returns c = λ e. not-both refl e
+returns c = λ e. not_both refl e
 
 states-again : tie.Need-states-preserved invariant-states decreases-states
 states-again c =
     let c3 = c.before.before.before in
-    (omega arith, idle-more c3.states.invariant.1 c.before.at-state.ensures c.if1.false)
+    (omega arith, idle_more c3.states.invariant.1 c.before.at-state.ensures c.if1.false)
 
 returns-2 : tie.Need-returns-2 invariant-states decreases-states
-returns-2 c = λ e. idle-all c.before.states.invariant.1 c.states-test.false
+returns-2 c = λ e. idle_all c.before.states.invariant.1 c.states-test.false
 
-pub stirs-spec : {M : Type 1} → statement M
-stirs-spec =
+pub stirs_spec : {M : Type 1} → statement M
+stirs_spec =
     tie.close
     (tie.spec
     invariant-states

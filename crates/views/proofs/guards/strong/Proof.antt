@@ -7,20 +7,20 @@ use lib.Dec.{eqb}
 use borrow.Author.Tests.{eq-eqb, ne_eqb}
 use Rattle.laws.specs.Range.{Held}
 use Rattle.laws.proofs.Range.{sweep-every, held_more}
-use Rattle.laws.proofs.Loops.{every-yes, every-no}
-use Rattle.views.specs.Guards.{lowAt, sent, strongIn}
-use Rattle.views.proofs.Calm.{next_small, low-upto}
+use Rattle.laws.proofs.Loops.{every_yes, every_no}
+use Rattle.views.specs.Guards.{low_at, sent, strong_in}
+use Rattle.views.proofs.Calm.{next_small, low_upto}
 use Rattle.views.proofs.guards.strong.Statement.{statement}
 use Rattle.views.proofs.guards.strong.Tie as tie
 
 abbrev invariant-states : tie.invariant-states
-invariant-states low next states actions u a s₀ s = (s ≤ states) × Held s (λ s. eqb (sent actions next low u a s) (sent actions next low u a (lowAt low u s)))
+invariant-states low next states actions u a s₀ s = (s ≤ states) × Held s (λ s. eqb (sent actions next low u a s) (sent actions next low u a (low_at low u s)))
 
 abbrev decreases-states : tie.decreases-states
 decreases-states low next states actions u a s₀ s = states - s
 
 low-of-requires : tie.Need-low-of-requires invariant-states decreases-states
-low-of-requires c κs = (c.before.before.before.requires.1.1.0, omega (arith, c.before.before.before.requires.0.states-most))
+low-of-requires c κs = (c.before.before.before.requires.1.1.0, omega (arith, c.before.before.before.requires.0.states_most))
 
 states-again : tie.Need-states-preserved invariant-states decreases-states
 states-again c =
@@ -38,7 +38,7 @@ sends-requires c κs =
     let c5 = c2.before.before.before in
     let n = c5.requires.0 in
     let p = c5.requires.1.1 in
-    (n.size, ((n.actions-most, p.0, p.1, omega (arith, n.states-most)), next_small n c2.states-test.true p.1))
+    (n.size, ((n.actions_most, p.0, p.1, omega (arith, n.states_most)), next_small n c2.states-test.true p.1))
 
 sends-requires-2 : tie.Need-sends-requires-2 invariant-states decreases-states
 sends-requires-2 c κs =
@@ -46,16 +46,16 @@ sends-requires-2 c κs =
     let c3 = c2.before in
     let c6 = c3.before.before.before in
     let n = c6.requires.0 in
-    let l = low-upto c6.requires.1.0 c3.states-test.true c2.low_of.ensures in
-    (n.size, ((n.actions-most, c6.requires.1.1.0, c6.requires.1.1.1, omega (arith, n.states-most)), next_small n l c6.requires.1.1.1))
+    let l = low_upto c6.requires.1.0 c3.states-test.true c2.low_of.ensures in
+    (n.size, ((n.actions_most, c6.requires.1.1.0, c6.requires.1.1.1, omega (arith, n.states_most)), next_small n l c6.requires.1.1.1))
 
 returns : tie.Need-returns invariant-states decreases-states
-unfolding strongIn
+unfolding strong_in
 returns c =
     let c2 = c.before.before in
     let c4 = c2.before.before in
     let c5 = c4.before in
-    every-no _ _ _ c5.states-test.true (ne_eqb _ _ (λ e. c.if2.true (c2.sends.ensures ∙ e ∙ sym (rw c4.low_of.ensures at
+    every_no _ _ _ c5.states-test.true (ne_eqb _ _ (λ e. c.if2.true (c2.sends.ensures ∙ e ∙ sym (rw c4.low_of.ensures at
     c.before.sends2.ensures))))
 
 states-again-2 : tie.Need-states-preserved-2 invariant-states decreases-states
@@ -69,8 +69,8 @@ states-again-2 c =
     )
 
 returns-2 : tie.Need-returns-2 invariant-states decreases-states
-unfolding strongIn
-returns-2 c = every-yes _ _ c.states-test.false c.before.states.invariant.1
+unfolding strong_in
+returns-2 c = every_yes _ _ c.states-test.false c.before.states.invariant.1
 
 pub strong_spec : {M : Type 1} → statement M
 strong_spec =

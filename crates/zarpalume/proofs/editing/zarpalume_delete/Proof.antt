@@ -41,11 +41,11 @@ use Rattle.edits.specs.Plan.{Delete}
 use Rattle.edits.specs.Edited.{Make, outcome, edited}
 use Rattle.edits.specs.declared.BoxRecord.{BoxRecord}
 use Rattle.edits.specs.contracts.BoxRecord as T
-use Rattle.edits.proofs.Asked.{asked-delete}
+use Rattle.edits.proofs.Asked.{asked_delete}
 use Rattle.edits.proofs.edit.Symbol as edit-def
 use Rattle.edits.proofs.edit.Symbol.{name as #edits·edit}
 use Rattle.edits.proofs.edit.Met as edit-thm
-use Rattle.zarpalume.proofs.Handed.{Edit, Loans, Back, Came, typed, x, y, z, s, t, p, Lent, LentItem, Kept, to-edit, lends, comes}
+use Rattle.zarpalume.proofs.Handed.{Edit, Loans, Back, Came, typed, x, y, z, s, t, p, Lent, LentItem, Kept, to_edit, lends, comes}
 use Rattle.zarpalume.specs.contracts.editing.zarpalume_delete.Key.{name as #zarpalume·editing·zarpalume-delete}
 use Rattle.zarpalume.specs.contracts.editing.zarpalume_delete as called
 use Rattle.zarpalume.proofs.editing.zarpalume_delete.Statement as stated
@@ -56,7 +56,7 @@ stayed = (stay_slice (0 ∷ []) tt (plain (λ _. T.the_row)), (stay_slice (1 ∷
 
 module _ {M : Type 1} {𝓤 : Ura M} (𝓛 : Logic 𝓤) (mem : Memory → SProp 𝓤) (run : Routine → Fun 𝓤)
     (κ₀ κ₁ κ₂ : Lft) (q₀ q₁ q₂ : Share) (b₀ o₀ : ℕ) (γ₀ : GName) (ys : List BoxRecord) (b₁ o₁ : ℕ) (γ₁ : GName) (ws : List ℕ) (b₂ o₂ : ℕ) (γ₂ : GName) (n : ℕ)
-    (room₀ : Room T.the_row (length ys)) (room₁ : Room u32 (length ws)) (id : ℕ) (id-fits : id < 2 ^ 32) where
+    (room₀ : Room T.the_row (length ys)) (room₁ : Room u32 (length ws)) (id : ℕ) (id_fits : id < 2 ^ 32) where
   open 𝓛 use {H}
 
   abbrev args : Args called.signature (κ₀, (κ₁, (κ₂, tt)))
@@ -74,7 +74,7 @@ module _ {M : Type 1} {𝓤 : Ura M} (𝓛 : Logic 𝓤) (mem : Memory → SProp
       qed 𝓛 (Lent 𝓛 mem run κ₀ κ₁ κ₂ q₀ q₁ q₂ b₀ o₀ γ₀ ys b₁ o₁ γ₁ ws b₂ o₂ γ₂ n zs vs m) ∵
       suffices ! _ (ends_at 𝓛 called.ended stayed (called.clauses 𝓛 mem run) (((κ₀, (κ₁, (κ₂, tt))), (q₀, (q₁, (q₂, tt))), tt, args, at), tt) (vint w32 r) r (zs, (vs, (m, (tt, tt)))) (lz, (lv, (tt, (tt, tt))))) $ says ! e $
       nothing ! $ move ! (3 ∷ 0 ∷ []) $ join ! $ move ! (2 ∷ 0 ∷ []) $ join ! $ move ! (1 ∷ 0 ∷ []) $ join ! $ frame ! $
-      nothing ! $ owned ! u32 (Is u32) (uint_Makes 𝓛 w32) id _ (refl, id-fits) $ fjoin ! $ move ! (3 ∷ 0 ∷ []) $ fjoin ! $ move ! (2 ∷ 0 ∷ []) $ fjoin ! $ move ! (1 ∷ 0 ∷ []) $ fjoin ! $ frame ! $
+      nothing ! $ owned ! u32 (Is u32) (uint_Makes 𝓛 w32) id _ (refl, id_fits) $ fjoin ! $ move ! (3 ∷ 0 ∷ []) $ fjoin ! $ move ! (2 ∷ 0 ∷ []) $ fjoin ! $ move ! (1 ∷ 0 ∷ []) $ fjoin ! $ frame ! $
       owned ! u32 (Is u32) (uint_Makes 𝓛 w32) r _ (refl, r-fits) $ done !
 
   module _ (C : Calls 𝓤 H) (Λ : Loops 𝓤 H) (fm : FmC 𝓤 H 𝓛.laws C) (known : Triple 𝓤 (C #edits·edit) (Edit 𝓛 mem run)) where
@@ -83,7 +83,7 @@ module _ {M : Type 1} {𝓤 : Ura M} (𝓛 : Logic 𝓤) (mem : Memory → SProp
         qed 𝓛 ((‵ (flft κ₀ q₀) ⊛ (‵ (flft κ₁ q₁) ⊛ (‵ (flft κ₂ q₂) ⊛ ‵ ftrue))) ∷ ‵ (owns (MutSlice (named 0) κ₀ T.the_row ∷ MutSlice (named 1) κ₁ u32 ∷ MutRef (named 2) κ₂ u32 ∷ u32 ∷ []) args at) ∷ []) ∵
         enter ! C Λ code.function (s 𝓛 mem run κ₀ κ₁ κ₂ q₀ q₁ q₂ b₀ o₀ γ₀ ys b₁ o₁ γ₁ ws b₂ o₂ γ₂ n ∷ t 𝓛 mem run κ₀ κ₁ κ₂ q₀ q₁ q₂ b₀ o₀ γ₀ ys b₁ o₁ γ₁ ws b₂ o₂ γ₂ n ∷ p 𝓛 mem run κ₀ κ₁ κ₂ q₀ q₁ q₂ b₀ o₀ γ₀ ys b₁ o₁ γ₁ ws b₂ o₂ γ₂ n ∷ vint w32 id ∷ []) _ $
         alloc1 ! (λ l₀. alloc1 ! (λ l₁. alloc1 ! (λ l₂. alloc1 ! (λ l₃. alloc1 ! (λ l₄. alloc1 ! (λ l₅. alloc1 ! (λ l₆. alloc1 ! (λ l₇. alloc1 ! (λ l₈. alloc1 ! (λ l₉. alloc0 ! $ params1 ! $
-        pass1 ! (init ! 16 refl (tt, (tt, (record { fits = room₀.0 }, tt)))) $ pass1 ! (init ! 14 refl (tt, (tt, (record { fits = room₁.0 }, tt)))) $ pass1 ! (init ! 12 refl (tt, tt)) $ pass1 ! (init ! 10 refl (tt, record { fits = id-fits })) $ pass0 ! $
+        pass1 ! (init ! 16 refl (tt, (tt, (record { fits = room₀.0 }, tt)))) $ pass1 ! (init ! 14 refl (tt, (tt, (record { fits = room₁.0 }, tt)))) $ pass1 ! (init ! 12 refl (tt, tt)) $ pass1 ! (init ! 10 refl (tt, record { fits = id_fits })) $ pass0 ! $
         assigns ! (addr ! (from ! (fld ! refl (hop ! (look_in ! 16 (sub ! 0 refl (whole !))) (stop !))))) (from ! (stop !)) (init ! 8 refl (tt, tt)) $
         assigns ! (agg ! (and_then ! (load ! (from ! (stop !)) (look ! 8 refl)) (and_then ! (load ! (from ! (fld ! refl (stop !))) (look_in ! 16 (sub ! 1 refl (whole !)))) (no_more !)))) (from ! (stop !)) (init ! 6 refl (tt, (tt, (record { fits = room₀.0 }, tt)))) $
         assigns ! (addr ! (from ! (fld ! refl (hop ! (look_in ! 14 (sub ! 0 refl (whole !))) (stop !))))) (from ! (stop !)) (init ! 4 refl (tt, tt)) $
@@ -92,15 +92,15 @@ module _ {M : Type 1} {𝓤 : Ura M} (𝓛 : Logic 𝓤) (mem : Memory → SProp
         move ! (21 ∷ []) $ fsplit ! $ move ! (1 ∷ []) $ fsplit ! $ move ! (1 ∷ []) $ fsplit ! $ move ! (24 ∷ []) $ split ! $ move ! (1 ∷ []) $ split ! $ move ! (1 ∷ []) $ split ! $
         move ! (3 ∷ 2 ∷ 0 ∷ 7 ∷ 6 ∷ 4 ∷ []) $ move ! (6 ∷ []) $ drop ! $ move ! (6 ∷ []) $ drop ! $ move ! (0 ∷ []) $
         -- [the three tokens; list; history; count; the locals]
-        cut (Lent 𝓛 mem run κ₀ κ₁ κ₂ q₀ q₁ q₂ b₀ o₀ γ₀ ys b₁ o₁ γ₁ ws b₂ o₂ γ₂ n ys ws n) (later (some (λ (k : Loans). raw ((Edit 𝓛 mem run).pre (to-edit 𝓛 mem run κ₀ κ₁ κ₂ q₀ q₁ q₂ b₀ o₀ γ₀ ys b₁ o₁ γ₁ ws b₂ o₂ γ₂ n 2 id 0 (lit< tt) id-fits (lit< tt) room₀ room₁ k)) ⊛ Kept 𝓛 mem run κ₀ κ₁ κ₂ q₀ q₁ q₂ b₀ o₀ γ₀ ys b₁ o₁ γ₁ ws b₂ o₂ γ₂ n k)) ∷ []) _ (lends 𝓛 mem run κ₀ κ₁ κ₂ q₀ q₁ q₂ b₀ o₀ γ₀ ys b₁ o₁ γ₁ ws b₂ o₂ γ₂ n 2 id 0 (lit< tt) id-fits (lit< tt) room₀ room₁) $ await ! tt $ pick ! (λ k. split ! $
-        calls_at ! fm (Edit 𝓛 mem run) known (to-edit 𝓛 mem run κ₀ κ₁ κ₂ q₀ q₁ q₂ b₀ o₀ γ₀ ys b₁ o₁ γ₁ ws b₂ o₂ γ₂ n 2 id 0 (lit< tt) id-fits (lit< tt) room₀ room₁ k) (and_then ! (load ! (from ! (stop !)) (look ! 8 refl)) (and_then ! (load ! (from ! (stop !)) (look ! 4 refl)) (and_then ! (load ! (from ! (stop !)) (look ! 2 refl))
+        cut (Lent 𝓛 mem run κ₀ κ₁ κ₂ q₀ q₁ q₂ b₀ o₀ γ₀ ys b₁ o₁ γ₁ ws b₂ o₂ γ₂ n ys ws n) (later (some (λ (k : Loans). raw ((Edit 𝓛 mem run).pre (to_edit 𝓛 mem run κ₀ κ₁ κ₂ q₀ q₁ q₂ b₀ o₀ γ₀ ys b₁ o₁ γ₁ ws b₂ o₂ γ₂ n 2 id 0 (lit< tt) id_fits (lit< tt) room₀ room₁ k)) ⊛ Kept 𝓛 mem run κ₀ κ₁ κ₂ q₀ q₁ q₂ b₀ o₀ γ₀ ys b₁ o₁ γ₁ ws b₂ o₂ γ₂ n k)) ∷ []) _ (lends 𝓛 mem run κ₀ κ₁ κ₂ q₀ q₁ q₂ b₀ o₀ γ₀ ys b₁ o₁ γ₁ ws b₂ o₂ γ₂ n 2 id 0 (lit< tt) id_fits (lit< tt) room₀ room₁) $ await ! tt $ pick ! (λ k. split ! $
+        calls_at ! fm (Edit 𝓛 mem run) known (to_edit 𝓛 mem run κ₀ κ₁ κ₂ q₀ q₁ q₂ b₀ o₀ γ₀ ys b₁ o₁ γ₁ ws b₂ o₂ γ₂ n 2 id 0 (lit< tt) id_fits (lit< tt) room₀ room₁ k) (and_then ! (load ! (from ! (stop !)) (look ! 8 refl)) (and_then ! (load ! (from ! (stop !)) (look ! 4 refl)) (and_then ! (load ! (from ! (stop !)) (look ! 2 refl))
         (and_then ! (lit ! tt) (and_then ! (load ! (from ! (stop !)) (look ! 12 refl)) (and_then ! (lit ! tt) (no_more !))))))) (λ w.
-        cut (raw ((Edit 𝓛 mem run).post (to-edit 𝓛 mem run κ₀ κ₁ κ₂ q₀ q₁ q₂ b₀ o₀ γ₀ ys b₁ o₁ γ₁ ws b₂ o₂ γ₂ n 2 id 0 (lit< tt) id-fits (lit< tt) room₀ room₁ k) w) ∷ Kept 𝓛 mem run κ₀ κ₁ κ₂ q₀ q₁ q₂ b₀ o₀ γ₀ ys b₁ o₁ γ₁ ws b₂ o₂ γ₂ n k ∷ []) (later (some (λ (g : Back). LentItem 𝓛 mem run κ₀ κ₁ κ₂ q₀ q₁ q₂ b₀ o₀ γ₀ ys b₁ o₁ γ₁ ws b₂ o₂ γ₂ n g.list g.words g.count ⊛ raw (fact 𝓤 (Came ys ws n 2 id 0 w g)))) ∷ []) _ (comes 𝓛 mem run κ₀ κ₁ κ₂ q₀ q₁ q₂ b₀ o₀ γ₀ ys b₁ o₁ γ₁ ws b₂ o₂ γ₂ n 2 id 0 (lit< tt) id-fits (lit< tt) room₀ room₁ k w) $ await ! tt $ pick ! (λ g.
+        cut (raw ((Edit 𝓛 mem run).post (to_edit 𝓛 mem run κ₀ κ₁ κ₂ q₀ q₁ q₂ b₀ o₀ γ₀ ys b₁ o₁ γ₁ ws b₂ o₂ γ₂ n 2 id 0 (lit< tt) id_fits (lit< tt) room₀ room₁ k) w) ∷ Kept 𝓛 mem run κ₀ κ₁ κ₂ q₀ q₁ q₂ b₀ o₀ γ₀ ys b₁ o₁ γ₁ ws b₂ o₂ γ₂ n k ∷ []) (later (some (λ (g : Back). LentItem 𝓛 mem run κ₀ κ₁ κ₂ q₀ q₁ q₂ b₀ o₀ γ₀ ys b₁ o₁ γ₁ ws b₂ o₂ γ₂ n g.list g.words g.count ⊛ raw (fact 𝓤 (Came ys ws n 2 id 0 w g)))) ∷ []) _ (comes 𝓛 mem run κ₀ κ₁ κ₂ q₀ q₁ q₂ b₀ o₀ γ₀ ys b₁ o₁ γ₁ ws b₂ o₂ γ₂ n 2 id 0 (lit< tt) id_fits (lit< tt) room₀ room₁ k w) $ await ! tt $ pick ! (λ g.
         split ! $ move ! (1 ∷ []) $ heard ! (Came ys ws n 2 id 0 w g) (λ came.
         land ! (from ! (stop !)) (init ! 19 refl (typed w g came)) $ rewrite ! 19 (λ (v : Val). ‵ (fat full_share (ty_int w32) l₀ 0 v)) came.value refl $
         returns ! (look ! 19 refl) $ forget ! 1 refl $ forget ! 3 refl $ forget ! 5 refl $ forget ! 7 refl $ forget ! 9 refl $ forget ! 11 refl $ forget ! 13 refl $ forget ! 15 refl $ forget ! 17 refl $ forget ! 19 refl $
         move ! (19 ∷ 20 ∷ []) $ free1 ! $ move ! (17 ∷ 18 ∷ []) $ free1 ! $ move ! (15 ∷ 16 ∷ []) $ free1 ! $ move ! (13 ∷ 14 ∷ []) $ free1 ! $ move ! (11 ∷ 12 ∷ []) $ free1 ! $ move ! (9 ∷ 10 ∷ []) $ free1 ! $ move ! (7 ∷ 8 ∷ []) $ free1 ! $ move ! (5 ∷ 6 ∷ []) $ free1 ! $ move ! (3 ∷ 4 ∷ []) $ free1 ! $ move ! (1 ∷ 2 ∷ []) $ free1 ! $ free0 ! $
-        by ! (exits g.number g.list g.words g.count came.fits (came.answer ∙ ap (edited ys (past n ws)) (asked-delete DELETE id 0 refl)) came.list-long came.words_long)))))))))))))))
+        by ! (exits g.number g.list g.words g.count came.fits (came.answer ∙ ap (edited ys (past n ws)) (asked_delete DELETE id 0 refl)) came.list_long came.words_long)))))))))))))))
 
 module _ {M : Type 1} {𝓤 : Ura M} (𝓛 : Logic 𝓤) (mem : Memory → SProp 𝓤) (run : Routine → Fun 𝓤) where
   open 𝓛 use {H}
@@ -119,9 +119,9 @@ meets {𝓤 = 𝓤} 𝓛 mem run 𝓣 known = walk_Meets 𝓛 called.ended staye
     (Goes-slice 𝓛 3 0 tt (plain (λ _. T.the_row)), (Goes-slice 𝓛 3 1 tt (plain (λ _. u32)), (Goes-ref 𝓛 3 2 tt (plain (λ _. u32)), (Goes-none 𝓛 3 (λ _. u32) yes (λ κs x f. refl), tt))))
     (called.clauses 𝓛 mem run) (WpFn 𝓤 𝓛.H 𝓣.C 𝓣.Λ code.function) (WpFn-mono 𝓤 𝓛.H 𝓛.laws 𝓣 code.function) (walks 𝓛 mem run 𝓣.C 𝓣.Λ (fm_of 𝓤 𝓛.H 𝓛.laws 𝓣) known)
 
-pub zarpalume-delete-spec : {M : Type 1} → stated.statement M
+pub zarpalume_delete_spec : {M : Type 1} → stated.statement M
 unfolding code.routine tables_of
-zarpalume-delete-spec 𝓤 𝓛 𝓜 𝓡 =
+zarpalume_delete_spec 𝓤 𝓛 𝓜 𝓡 =
     entered 𝓤 𝓛.H (triple_of 𝓛 called.signature (called.spec 𝓛 𝓜.mem 𝓡.run))
     (tables 𝓤 𝓛.H 𝓜 𝓡 code.env).C (tables 𝓤 𝓛.H 𝓜 𝓡 code.env).Λ #zarpalume·editing·zarpalume-delete code.function (code.unfolded 𝓤 𝓛.H 𝓜 𝓡)
     (meets 𝓛 𝓜.mem 𝓡.run (tables_of 𝓤 𝓛.H 𝓜 (tables 𝓤 𝓛.H 𝓜 𝓡 code.env))

@@ -39,11 +39,11 @@ use Rattle.edits.specs.History.{past}
 use Rattle.edits.specs.Edited.{Undo, UNDO, outcome, edited}
 use Rattle.edits.specs.declared.BoxRecord.{BoxRecord}
 use Rattle.edits.specs.contracts.BoxRecord as T
-use Rattle.edits.proofs.Asked.{asked-undo}
+use Rattle.edits.proofs.Asked.{asked_undo}
 use Rattle.edits.proofs.edit.Symbol as edit-def
 use Rattle.edits.proofs.edit.Symbol.{name as #edits·edit}
 use Rattle.edits.proofs.edit.Met as edit-thm
-use Rattle.zarpalume.proofs.Handed.{Edit, Loans, Back, Came, typed, x, y, z, s, t, p, Lent, LentItem, Kept, to-edit, lends, comes}
+use Rattle.zarpalume.proofs.Handed.{Edit, Loans, Back, Came, typed, x, y, z, s, t, p, Lent, LentItem, Kept, to_edit, lends, comes}
 use Rattle.zarpalume.specs.contracts.editing.zarpalume_undo.Key.{name as #zarpalume·editing·zarpalume-undo}
 use Rattle.zarpalume.specs.contracts.editing.zarpalume_undo as called
 use Rattle.zarpalume.proofs.editing.zarpalume_undo.Statement as stated
@@ -90,15 +90,15 @@ module _ {M : Type 1} {𝓤 : Ura M} (𝓛 : Logic 𝓤) (mem : Memory → SProp
         move ! (19 ∷ []) $ fsplit ! $ move ! (1 ∷ []) $ fsplit ! $ move ! (1 ∷ []) $ fsplit ! $ move ! (22 ∷ []) $ split ! $ move ! (1 ∷ []) $ split ! $ move ! (1 ∷ []) $ split ! $
         move ! (3 ∷ 2 ∷ 0 ∷ 7 ∷ 6 ∷ 4 ∷ []) $ move ! (6 ∷ []) $ drop ! $ move ! (6 ∷ []) $ drop ! $ move ! (0 ∷ []) $
         -- [the three tokens; list; history; count; the locals]
-        cut (Lent 𝓛 mem run κ₀ κ₁ κ₂ q₀ q₁ q₂ b₀ o₀ γ₀ ys b₁ o₁ γ₁ ws b₂ o₂ γ₂ n ys ws n) (later (some (λ (k : Loans). raw ((Edit 𝓛 mem run).pre (to-edit 𝓛 mem run κ₀ κ₁ κ₂ q₀ q₁ q₂ b₀ o₀ γ₀ ys b₁ o₁ γ₁ ws b₂ o₂ γ₂ n 5 0 0 (lit< tt) (lit< tt) (lit< tt) room₀ room₁ k)) ⊛ Kept 𝓛 mem run κ₀ κ₁ κ₂ q₀ q₁ q₂ b₀ o₀ γ₀ ys b₁ o₁ γ₁ ws b₂ o₂ γ₂ n k)) ∷ []) _ (lends 𝓛 mem run κ₀ κ₁ κ₂ q₀ q₁ q₂ b₀ o₀ γ₀ ys b₁ o₁ γ₁ ws b₂ o₂ γ₂ n 5 0 0 (lit< tt) (lit< tt) (lit< tt) room₀ room₁) $ await ! tt $ pick ! (λ k. split ! $
-        calls_at ! fm (Edit 𝓛 mem run) known (to-edit 𝓛 mem run κ₀ κ₁ κ₂ q₀ q₁ q₂ b₀ o₀ γ₀ ys b₁ o₁ γ₁ ws b₂ o₂ γ₂ n 5 0 0 (lit< tt) (lit< tt) (lit< tt) room₀ room₁ k) (and_then ! (load ! (from ! (stop !)) (look ! 8 refl)) (and_then ! (load ! (from ! (stop !)) (look ! 4 refl)) (and_then ! (load ! (from ! (stop !)) (look ! 2 refl))
+        cut (Lent 𝓛 mem run κ₀ κ₁ κ₂ q₀ q₁ q₂ b₀ o₀ γ₀ ys b₁ o₁ γ₁ ws b₂ o₂ γ₂ n ys ws n) (later (some (λ (k : Loans). raw ((Edit 𝓛 mem run).pre (to_edit 𝓛 mem run κ₀ κ₁ κ₂ q₀ q₁ q₂ b₀ o₀ γ₀ ys b₁ o₁ γ₁ ws b₂ o₂ γ₂ n 5 0 0 (lit< tt) (lit< tt) (lit< tt) room₀ room₁ k)) ⊛ Kept 𝓛 mem run κ₀ κ₁ κ₂ q₀ q₁ q₂ b₀ o₀ γ₀ ys b₁ o₁ γ₁ ws b₂ o₂ γ₂ n k)) ∷ []) _ (lends 𝓛 mem run κ₀ κ₁ κ₂ q₀ q₁ q₂ b₀ o₀ γ₀ ys b₁ o₁ γ₁ ws b₂ o₂ γ₂ n 5 0 0 (lit< tt) (lit< tt) (lit< tt) room₀ room₁) $ await ! tt $ pick ! (λ k. split ! $
+        calls_at ! fm (Edit 𝓛 mem run) known (to_edit 𝓛 mem run κ₀ κ₁ κ₂ q₀ q₁ q₂ b₀ o₀ γ₀ ys b₁ o₁ γ₁ ws b₂ o₂ γ₂ n 5 0 0 (lit< tt) (lit< tt) (lit< tt) room₀ room₁ k) (and_then ! (load ! (from ! (stop !)) (look ! 8 refl)) (and_then ! (load ! (from ! (stop !)) (look ! 4 refl)) (and_then ! (load ! (from ! (stop !)) (look ! 2 refl))
         (and_then ! (lit ! tt) (and_then ! (lit ! tt) (and_then ! (lit ! tt) (no_more !))))))) (λ w.
-        cut (raw ((Edit 𝓛 mem run).post (to-edit 𝓛 mem run κ₀ κ₁ κ₂ q₀ q₁ q₂ b₀ o₀ γ₀ ys b₁ o₁ γ₁ ws b₂ o₂ γ₂ n 5 0 0 (lit< tt) (lit< tt) (lit< tt) room₀ room₁ k) w) ∷ Kept 𝓛 mem run κ₀ κ₁ κ₂ q₀ q₁ q₂ b₀ o₀ γ₀ ys b₁ o₁ γ₁ ws b₂ o₂ γ₂ n k ∷ []) (later (some (λ (g : Back). LentItem 𝓛 mem run κ₀ κ₁ κ₂ q₀ q₁ q₂ b₀ o₀ γ₀ ys b₁ o₁ γ₁ ws b₂ o₂ γ₂ n g.list g.words g.count ⊛ raw (fact 𝓤 (Came ys ws n 5 0 0 w g)))) ∷ []) _ (comes 𝓛 mem run κ₀ κ₁ κ₂ q₀ q₁ q₂ b₀ o₀ γ₀ ys b₁ o₁ γ₁ ws b₂ o₂ γ₂ n 5 0 0 (lit< tt) (lit< tt) (lit< tt) room₀ room₁ k w) $ await ! tt $ pick ! (λ g.
+        cut (raw ((Edit 𝓛 mem run).post (to_edit 𝓛 mem run κ₀ κ₁ κ₂ q₀ q₁ q₂ b₀ o₀ γ₀ ys b₁ o₁ γ₁ ws b₂ o₂ γ₂ n 5 0 0 (lit< tt) (lit< tt) (lit< tt) room₀ room₁ k) w) ∷ Kept 𝓛 mem run κ₀ κ₁ κ₂ q₀ q₁ q₂ b₀ o₀ γ₀ ys b₁ o₁ γ₁ ws b₂ o₂ γ₂ n k ∷ []) (later (some (λ (g : Back). LentItem 𝓛 mem run κ₀ κ₁ κ₂ q₀ q₁ q₂ b₀ o₀ γ₀ ys b₁ o₁ γ₁ ws b₂ o₂ γ₂ n g.list g.words g.count ⊛ raw (fact 𝓤 (Came ys ws n 5 0 0 w g)))) ∷ []) _ (comes 𝓛 mem run κ₀ κ₁ κ₂ q₀ q₁ q₂ b₀ o₀ γ₀ ys b₁ o₁ γ₁ ws b₂ o₂ γ₂ n 5 0 0 (lit< tt) (lit< tt) (lit< tt) room₀ room₁ k w) $ await ! tt $ pick ! (λ g.
         split ! $ move ! (1 ∷ []) $ heard ! (Came ys ws n 5 0 0 w g) (λ came.
         land ! (from ! (stop !)) (init ! 17 refl (typed w g came)) $ rewrite ! 17 (λ (v : Val). ‵ (fat full_share (ty_int w32) l₀ 0 v)) came.value refl $
         returns ! (look ! 17 refl) $ forget ! 1 refl $ forget ! 3 refl $ forget ! 5 refl $ forget ! 7 refl $ forget ! 9 refl $ forget ! 11 refl $ forget ! 13 refl $ forget ! 15 refl $ forget ! 17 refl $
         move ! (17 ∷ 18 ∷ []) $ free1 ! $ move ! (15 ∷ 16 ∷ []) $ free1 ! $ move ! (13 ∷ 14 ∷ []) $ free1 ! $ move ! (11 ∷ 12 ∷ []) $ free1 ! $ move ! (9 ∷ 10 ∷ []) $ free1 ! $ move ! (7 ∷ 8 ∷ []) $ free1 ! $ move ! (5 ∷ 6 ∷ []) $ free1 ! $ move ! (3 ∷ 4 ∷ []) $ free1 ! $ move ! (1 ∷ 2 ∷ []) $ free1 ! $ free0 ! $
-        by ! (exits g.number g.list g.words g.count came.fits (came.answer ∙ ap (edited ys (past n ws)) (asked-undo UNDO 0 0 refl)) came.list-long came.words_long))))))))))))))
+        by ! (exits g.number g.list g.words g.count came.fits (came.answer ∙ ap (edited ys (past n ws)) (asked_undo UNDO 0 0 refl)) came.list_long came.words_long))))))))))))))
 
 module _ {M : Type 1} {𝓤 : Ura M} (𝓛 : Logic 𝓤) (mem : Memory → SProp 𝓤) (run : Routine → Fun 𝓤) where
   open 𝓛 use {H}
@@ -117,9 +117,9 @@ meets {𝓤 = 𝓤} 𝓛 mem run 𝓣 known = walk_Meets 𝓛 called.ended staye
     (Goes-slice 𝓛 3 0 tt (plain (λ _. T.the_row)), (Goes-slice 𝓛 3 1 tt (plain (λ _. u32)), (Goes-ref 𝓛 3 2 tt (plain (λ _. u32)), tt)))
     (called.clauses 𝓛 mem run) (WpFn 𝓤 𝓛.H 𝓣.C 𝓣.Λ code.function) (WpFn-mono 𝓤 𝓛.H 𝓛.laws 𝓣 code.function) (walks 𝓛 mem run 𝓣.C 𝓣.Λ (fm_of 𝓤 𝓛.H 𝓛.laws 𝓣) known)
 
-pub zarpalume-undo-spec : {M : Type 1} → stated.statement M
+pub zarpalume_undo_spec : {M : Type 1} → stated.statement M
 unfolding code.routine tables_of
-zarpalume-undo-spec 𝓤 𝓛 𝓜 𝓡 =
+zarpalume_undo_spec 𝓤 𝓛 𝓜 𝓡 =
     entered 𝓤 𝓛.H (triple_of 𝓛 called.signature (called.spec 𝓛 𝓜.mem 𝓡.run))
     (tables 𝓤 𝓛.H 𝓜 𝓡 code.env).C (tables 𝓤 𝓛.H 𝓜 𝓡 code.env).Λ #zarpalume·editing·zarpalume-undo code.function (code.unfolded 𝓤 𝓛.H 𝓜 𝓡)
     (meets 𝓛 𝓜.mem 𝓡.run (tables_of 𝓤 𝓛.H 𝓜 (tables 𝓤 𝓛.H 𝓜 𝓡 code.env))

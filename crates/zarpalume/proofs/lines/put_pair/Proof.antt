@@ -10,8 +10,8 @@ returns c =
     let v = lent c.before.before.before.before.before.before.before.before.before.before.put-words.ensures.0 (omega arith) c.before.before.before.before.before.before.put-field.ensures.0 in
     (lent v (omega arith) c.before.before.put-field2.ensures.0, omega arith)
 
-pub put-pair-spec : {M : Type 1} → statement M
-put-pair-spec =
+pub put_pair_spec : {M : Type 1} → statement M
+put_pair_spec =
     tie.close
     (tie.spec
     (λ c κs. search rules) (λ c. search rules) (λ c. search rules) (λ c. search rules) (λ c κs. search rules) (λ c. search rules)

@@ -11,8 +11,8 @@ returns c =
     let u = lent v (omega arith) c.before.before.before.before.before.before.put-field2.ensures.0 in
     (lent u (omega arith) c.before.before.put-field3.ensures.0, omega arith)
 
-pub put-place-spec : {M : Type 1} → statement M
-put-place-spec =
+pub put_place_spec : {M : Type 1} → statement M
+put_place_spec =
     tie.close
     (tie.spec
     (λ c κs. search rules) (λ c. search rules) (λ c. search rules) (λ c. search rules) (λ c κs. search rules) (λ c. search rules)

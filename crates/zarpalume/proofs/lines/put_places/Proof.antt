@@ -8,8 +8,8 @@ use Rattle.zarpalume.proofs.lines.put_places.Tie as tie
 returns : tie.Need-returns
 returns c = (lent c.before.before.before.before.before.before.put-place.ensures.0 (omega arith) c.before.before.put-field.ensures.0, omega arith)
 
-pub put-places-spec : {M : Type 1} → statement M
-put-places-spec =
+pub put_places_spec : {M : Type 1} → statement M
+put_places_spec =
     tie.close
     (tie.spec
     (λ c κs. search rules) (λ c. search rules) (λ c. search rules) (λ c. search rules) (λ c κs. search rules) (λ c. search rules)

@@ -8,8 +8,8 @@ use Rattle.zarpalume.proofs.lines.put_respect.Tie as tie
 returns : tie.Need-returns
 returns c = (lent c.before.before.before.before.before.before.before.put-place.ensures.0 (omega arith) c.before.before.put-words.ensures.0, omega arith)
 
-pub put-respect-spec : {M : Type 1} → statement M
-put-respect-spec =
+pub put_respect_spec : {M : Type 1} → statement M
+put_respect_spec =
     tie.close
     (tie.spec
     (λ c. search rules) (λ c κs. search rules) (λ c. search rules) (λ c. search rules) (λ c. search rules) (λ c. search rules)

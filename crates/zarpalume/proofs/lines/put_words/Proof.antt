@@ -7,7 +7,7 @@ use Rattle.zarpalume.proofs.lines.put_words.Tie as tie
 returns : tie.Need-returns
 returns c = whole _ (search rules) c.before.before.put-bytes.ensures
 
-pub put-words-spec : {M : Type 1} → statement M
-put-words-spec = tie.close (tie.spec
+pub put_words_spec : {M : Type 1} → statement M
+put_words_spec = tie.close (tie.spec
     (λ c κs. search rules) (λ c. search rules)
     returns)
