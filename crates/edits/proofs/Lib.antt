@@ -10,7 +10,6 @@ pub mod Restored
 pub mod Stays
 pub mod Fits
 pub mod Called
-pub mod Again
 pub mod Promises
 pub mod Story
 pub mod Fakes

@@ -1,0 +1,14 @@
+-- `edits::bits::within` meets its contract. Assumes nothing.
+use mathlib.Core.Path.{sym, ap}
+use native.Mathlib.Omega.{arith}
+use lib.Dec.{ltb}
+use borrow.Author.Tests.{lt-ltb}
+use Rattle.laws.proofs.Bits.{small_wide}
+use borrow.Author.Rules.{rules}
+use Rattle.edits.proofs.bits.within.Goals as goal
+
+pub returns-then-n-ge32 : goal.returns-then-n-ge32
+returns-then-n-ge32 c = sym (lt-ltb _ _ (small_wide c.args.n 32 c.args.set (omega arith) c.if-n-ge32.true))
+
+pub returns : goal.returns
+returns c = ap (ltb c.args.set) c.power.ensures

@@ -1,0 +1,14 @@
+-- `edits::boxes::place_of` meets its contract. Assumes nothing.
+use mathlib.Core.Bool.{not}
+use Prim.Native.Nat.{◌≤◌, ◌-◌}
+use Rattle.laws.specs.Range.{Held}
+use Rattle.laws.proofs.Firsts.{seek}
+use Rattle.model.specs.Limits.{BOXES}
+use Rattle.edits.specs.Records.{at, is_with, place}
+use Rattle.edits.proofs.boxes.place_of.Given as goal
+
+abbrev pub invariant-boxes : goal.invariant-boxes
+invariant-boxes l = (l.k ≤ BOXES) × Held l.k (λ j. not (is_with (at l.list j) l.id))
+
+abbrev pub decreases-boxes : goal.decreases-boxes
+decreases-boxes l = BOXES - l.k

@@ -1,0 +1,6 @@
+-- `edits::changes::draw` meets its contract. Assumes nothing.
+use borrow.Author.Rules.{rules}
+use Rattle.edits.proofs.changes.draw.Goals as goal
+
+pub returns : goal.returns
+returns c = rw (c.with_record.ensures, c.with_arrows.ensures, c.with_bit-set.ensures)

@@ -1,0 +1,34 @@
+-- `views::first_output` meets its contract. Each loop's invariant: its number is at most the range's end, nothing is found yet, and the search that the loop makes gives nothing below its number.
+-- Assumes nothing.
+-- Here `c3` is the place three before `c`.
+use mathlib.Core.Path.{◌≡◌, refl}
+use mathlib.Core.List.{[]}
+use Prim.Native.Nat.{◌≤◌, ◌<◌, ◌-◌}
+use native.Mathlib.Omega.{arith}
+use borrow.Author.Rules.{rules}
+use Rattle.laws.specs.Search.{Passed}
+use Rattle.laws.proofs.Tests.{told}
+use Rattle.laws.proofs.Search.{sweep, passed_more, first_of_none, first_of_hit, when_rest, when_no, when_hit, pair_hit, pairs_passed}
+use Rattle.views.specs.declared.Judgement.TheVariants.{Accepted}
+use Rattle.views.proofs.Flags.{owner_in, owner_small, answer_none, answer_output}
+use Rattle.views.proofs.Calm.{lows_low, quiet_none}
+use Rattle.views.proofs.Searches.{output_at, output_from, output_of, output_is}
+use Rattle.views.proofs.first_output.Given as goal
+
+abbrev pub invariant-seconds : goal.invariant-seconds
+invariant-seconds l = (l.t ≤ l.states) × (l.s < l.t) × (l.found ≡ Accepted) × Passed l.t (output_at l.states l.actions l.owners l.outputs l.views l.a l.s)
+
+abbrev pub decreases-seconds : goal.decreases-seconds
+decreases-seconds l = l.states - l.t
+
+abbrev pub invariant-firsts : goal.invariant-firsts
+invariant-firsts l = (l.s ≤ l.states) × (l.found ≡ Accepted) × Passed l.s (output_from l.states l.actions l.owners l.outputs l.views l.a)
+
+abbrev pub decreases-firsts : goal.decreases-firsts
+decreases-firsts l = l.states - l.s
+
+abbrev pub invariant-actions : goal.invariant-actions
+invariant-actions l = (l.a ≤ l.actions) × (l.found ≡ Accepted) × Passed l.a (output_of l.states l.actions l.owners l.outputs l.views)
+
+abbrev pub decreases-actions : goal.decreases-actions
+decreases-actions l = l.actions - l.a

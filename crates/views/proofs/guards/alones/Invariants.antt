@@ -1,0 +1,13 @@
+-- `views::guards::alones` meets its contract. Assumes nothing.
+-- Here `c3` is the place three before `c`.
+use Prim.Native.Nat.{◌≤◌, ◌-◌}
+use native.Mathlib.Omega.{arith}
+use Rattle.views.specs.Guards.{Alones}
+use Rattle.views.proofs.Calm.{alones_none, alones_more}
+use Rattle.views.proofs.guards.alones.Given as goal
+
+abbrev pub invariant-boxes : goal.invariant-boxes
+invariant-boxes l = (l.u ≤ l.boxes) × Alones l.states l.low l.alones
+
+abbrev pub decreases-boxes : goal.decreases-boxes
+decreases-boxes l = l.boxes - l.u

@@ -1,0 +1,14 @@
+-- `views::guards::fill_row` meets its contract. Assumes nothing.
+-- Here `c3` is the place three before `c`.
+use Prim.Native.Nat.{◌≤◌, ◌-◌, ℕ}
+use native.Mathlib.Omega.{arith}
+use lib.ListN.{length-replicate}
+use Rattle.views.specs.Guards.{SLOTS, Slots, Others, Filled}
+use Rattle.views.proofs.Lows.{slots_none, others_none, filled_more, filled_row}
+use Rattle.views.proofs.guards.fill_row.Given as goal
+
+abbrev pub invariant-states : goal.invariant-states
+invariant-states l = (l.s ≤ l.states) × Slots l.states l.views l.u l.s l.slots × Others l.states l.views l.u l.s l.slots l.others × Filled l.states l.views l.low l.u l.s
+
+abbrev pub decreases-states : goal.decreases-states
+decreases-states l = l.states - l.s

@@ -1,0 +1,13 @@
+-- `views::guards::idles` meets its contract. Assumes nothing.
+-- Here `c3` is the place three before `c`.
+use Prim.Native.Nat.{◌≤◌, ◌-◌}
+use native.Mathlib.Omega.{arith}
+use Rattle.views.specs.Guards.{Kept}
+use Rattle.views.proofs.Calm.{kept_none}
+use Rattle.views.proofs.guards.idles.Given as goal
+
+abbrev pub invariant-actions : goal.invariant-actions
+invariant-actions l = (l.a ≤ l.actions) × Kept l.states l.actions l.next l.low l.kept
+
+abbrev pub decreases-actions : goal.decreases-actions
+decreases-actions l = l.actions - l.a

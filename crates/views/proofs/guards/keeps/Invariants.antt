@@ -1,0 +1,15 @@
+-- `views::guards::keeps` meets its contract. Assumes nothing.
+-- Here `c3` is the place three before `c`.
+use Prim.Native.Nat.{◌≤◌, ◌-◌}
+use native.Mathlib.Omega.{arith}
+use mathlib.Core.Path.{refl}
+use Rattle.laws.proofs.Tests.{not_both}
+use Rattle.views.specs.Guards.{Keeps}
+use Rattle.views.proofs.Calm.{next_small, keeps_none, keeps_more, keeps_all}
+use Rattle.views.proofs.guards.keeps.Given as goal
+
+abbrev pub invariant-states : goal.invariant-states
+invariant-states l = (l.s ≤ l.states) × Keeps l.s l.actions l.next l.low l.u l.a
+
+abbrev pub decreases-states : goal.decreases-states
+decreases-states l = l.states - l.s
