@@ -135,6 +135,7 @@ row_decides (x ∷ xs) r {n} q h = go x.holds refl (row_decides xs r q) h
 
 pub decides_row : (xs : List Row) (r : Record) {n : ℕ} → FirstRow xs n → by_rows xs r ≡ Not n
 unfolding by_rows
+decides_row [] r {n = n} x' = elim x' [ ]
 decides_row (x ∷ xs) r (here e) = rw e
 decides_row (x ∷ xs) r (later e f) = rw e (decides_row xs r f)
 

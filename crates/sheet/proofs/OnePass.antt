@@ -294,8 +294,8 @@ quick_two ids t at b r s e p =
 pub exact_at : (ids t : List ℕ) (at : ℕ) {start end next : ℕ} → parts.Found t at start end next → (x : Flow) → flow_line ids (take (end - start) (drop start t)) ≡ x → on_flow x (λ v u. arrow.One v u next) (λ v u. arrow.Two v u next) arrow.Not arrow.Other ≡ flow_at ids t at
 exact_at ids t at p x e = rw (rw (p.start_is, p.end_is) at e, p.next_is)
 
-pub quick_flow_taken : (x r : Arrow) → OneOf (0 ∷ 1 ∷ 2 ∷ []) (tag_of arrows.the_type r) → QuickFlow x r → r ≡ x
+pub quick_flow_taken : (x r : Arrow) → (r ≡ arrow.Other → ⊥) → QuickFlow x r → r ≡ x
 quick_flow_taken x (arrow.One v u next) k p = sym p
 quick_flow_taken x (arrow.Two v u next) k p = sym p
 quick_flow_taken x (arrow.Not e) k p = sym p
-quick_flow_taken x arrow.Other k p = absurd (⊎_elim (λ (h : 3 ≡ 0). omega arith) (⊎_elim (λ (h : 3 ≡ 1). omega arith) (λ (h : 3 ≡ 2). omega arith)) k)
+quick_flow_taken x arrow.Other k p = absurd (k refl)

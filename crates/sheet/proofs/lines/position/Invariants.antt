@@ -1,0 +1,15 @@
+-- `sheet::position` meets its contract: none of the ids passed is the one looked for. Assumes nothing.
+use Prim.Native.Nat.{◌-◌}
+use mathlib.Core.Path.{◌≡◌, sym, ◌∙◌}
+use native.Mathlib.Omega.{arith}
+use lib.ListN.{length}
+use Rattle.text.specs.Lines.{before, end_of}
+use Rattle.text.proofs.Parts.{end_here, end_past, end_over}
+use borrow.Author.Rules.{rules}
+use Rattle.sheet.proofs.lines.position.Given as goal
+
+abbrev pub invariant-loop-k : goal.invariant-loop-k
+invariant-loop-k l = end_of l.id l.ids l.k ≡ before l.id l.ids
+
+abbrev pub decreases-loop-k : goal.decreases-loop-k
+decreases-loop-k l = length l.ids - l.k

@@ -1,0 +1,14 @@
+-- `sheet::record_of` meets its contract. Assumes nothing.
+use mathlib.Core.Path.{sym, ◌∙◌}
+use Rattle.sheet.specs.Numbers.{record_of}
+use Rattle.sheet.proofs.Fields.{rest_after}
+use borrow.Author.Rules.{rules}
+use Rattle.sheet.proofs.lines.record_of.Goals as goal
+
+pub returns-then-starts : goal.returns-then-starts
+unfolding record_of
+returns-then-starts c = let s = sym c.starts.ensures ∙ c.if-starts.true in rw (← rest_after _ _ s) (simp s c.numbers_from.ensures)
+
+pub returns : goal.returns
+unfolding record_of
+returns c = simp (sym c.starts.ensures ∙ c.if-starts.false)

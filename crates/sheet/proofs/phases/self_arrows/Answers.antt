@@ -1,0 +1,30 @@
+-- `sheet::self_arrows` meets its contract: the first `k` boxes have theirs. Assumes nothing.
+use Prim.Native.Nat.{ℕ, ◌≤◌, ◌-◌}
+use mathlib.Core.Path.{◌≡◌, refl, ap, ◌∙◌}
+use mathlib.Core.Bool.{false}
+use native.Mathlib.Omega.{arith}
+use native.Mathlib.Numerals.{add-one}
+use lib.ListN.{length, replicate, length-replicate}
+use Rattle.model.specs.Limits.{BOXES}
+use Rattle.model.specs.Arrows.{drawn, selves}
+use Rattle.model.proofs.Arrows.{selves_length}
+use borrow.Author.Rules.{rules}
+use Rattle.sheet.proofs.phases.self_arrows.Goals as goal
+
+pub loop-k-init : goal.loop-k-init
+unfolding selves
+loop-k-init c = (c.requires, omega arith, refl)
+
+pub draw-requires : goal.draw-requires
+draw-requires c =
+    let l = c.loop-k in
+    (ap length l.invariant.2 ∙ selves_length l.k (replicate BOXES 0) ∙ length-replicate {A = ℕ} BOXES 0, omega arith, omega arith)
+
+pub loop-k-preserved : goal.loop-k-preserved
+unfolding selves
+loop-k-preserved c =
+    let l = c.loop-k in
+    (l.invariant.0, omega arith, rw (add-one l.k) (c.draw.ensures ∙ ap (drawn l.k l.k) l.invariant.2))
+
+pub returns : goal.returns
+returns c = let e : c.loop-k.k ≡ c.args.boxes = omega arith in c.loop-k.invariant.2 ∙ rw e
