@@ -1,0 +1,15 @@
+-- `needs::arrows::mark_state` meets its contract. The loop's invariant: the boxes of the actions passed are marked.
+-- Assumes nothing.
+use borrow.Author.Rules.{rules}
+use native.Mathlib.Omega.{arith}
+use Prim.Native.Nat.{◌≤◌, ◌<◌, ◌-◌}
+use Rattle.model.specs.Limits.{BOXES}
+use Rattle.needs.specs.Tables.{step_in, entry}
+use Rattle.needs.proofs.Marking.{MovedTo, moved_none, moved_keep, moved_put, moved_all}
+use Rattle.needs.proofs.arrows.mark_state.Given as goal
+
+abbrev pub invariant-actions : goal.invariant-actions
+invariant-actions l = (l.a ≤ l.actions) × MovedTo l.owners (step_in l.actions l.next) (entry l.c) l.s l.initial.table l.table l.u l.a
+
+abbrev pub decreases-actions : goal.decreases-actions
+decreases-actions l = l.actions - l.a

@@ -1,0 +1,15 @@
+-- `needs::changes::touched` meets its contract. The loop's invariant: what leads to a state passed that is outside the part kept is marked.
+-- Assumes nothing.
+use native.Mathlib.Omega.{arith}
+use mathlib.Core.Bool.{Bool, false}
+use Prim.Native.Nat.{◌≤◌, ◌-◌}
+use lib.ListN.{length-replicate}
+use Rattle.model.specs.Limits.{STATES}
+use Rattle.needs.proofs.Looking.{TouchedTo, touched_none, touched_skip, touched_merge, touched_all}
+use Rattle.needs.proofs.changes.touched.Given as goal
+
+abbrev pub invariant-states : goal.invariant-states
+invariant-states l = (l.x ≤ l.states) × TouchedTo l.before l.c l.d l.keep l.marks l.x
+
+abbrev pub decreases-states : goal.decreases-states
+decreases-states l = l.states - l.x
