@@ -6,7 +6,7 @@ use mathlib.Core.Bool.{true, false}
 use mathlib.Core.List.{List, [], ◌∷◌}
 use Prim.Native.Nat.{ℕ, ◌<◌}
 use Rattle.laws.specs.Choice.{choose}
-use Rattle.laws.specs.Lists.{All, any, elem}
+use Rattle.laws.specs.Lists.{All, elem}
 use Rattle.laws.proofs.Tests.{by_test, not_both, false_of}
 use Rattle.laws.proofs.Lists.{any_true, any_at}
 use Rattle.noninterference.specs.Machine.{Machine, Owned, after}

@@ -1,7 +1,7 @@
 -- The three searches find nothing exactly when the conditions hold; what they find is broken, and nothing earlier is.
 -- Assumes nothing.
 use mathlib.Core.Path.{◌≡◌, refl, sym, ap}
-use mathlib.Core.Logic.{◌⊎◌, ⊎_elim, ◌↔◌, by_cases}
+use mathlib.Core.Logic.{⊎_elim, ◌↔◌, by_cases}
 use mathlib.Core.Bool.{Bool, true, not}
 use mathlib.Core.List.{List, [], ◌∷◌}
 use mathlib.Core.Option.{Option, none, some}

@@ -11,7 +11,7 @@ use native.Mathlib.Numerals.{add-one}
 use native.Mathlib.Nat.{not-suc-le-zero, le_of_suc-le-suc}
 use lib.ListN.{length}
 use borrow.Author.Tests.{eqb-true, eq-eqb}
-use Rattle.laws.specs.Range.{count, first}
+use Rattle.laws.specs.Range.{count}
 use Rattle.laws.proofs.Tests.{by_test, not_both, both_of, both_true, brings_at, brings_of, brings_false}
 use Rattle.laws.proofs.Range.{below_suc, by_order, every_at, every_of, every_fails, first_at}
 use Rattle.laws.proofs.Count.{Equivalent, leads, leads_counts, leader, more_classes, count_some, count_mono, count_le}

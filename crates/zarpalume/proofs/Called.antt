@@ -71,14 +71,14 @@ module _ (t next₀ outputs₀ views₀ : List ℕ) (s : Sheet) (next outputs vi
       go (answers.Refused number n) h = line_small t (sym h)
       go (answers.Model z) h = tt
 
-  -- the tag that the call tested
-  pub refused_said : OneOf (1 ∷ []) (tag_of answered.the_type s.answer) → refusal_of s.answer ≡ verdict t
+  -- what the call tested
+  pub refused_said : ((z : Sizes) → s.answer ≡ answers.Model z → ⊥) → refusal_of s.answer ≡ verdict t
   unfolding verdict
   refused_said k = go s.answer k as_read
     where
-      go : (a : Answer) → OneOf (1 ∷ []) (tag_of answered.the_type a) → reading_of a p ≡ sheet_text t → refusal_of a ≡ said (sheet_text t)
+      go : (a : Answer) → ((z : Sizes) → a ≡ answers.Model z → ⊥) → reading_of a p ≡ sheet_text t → refusal_of a ≡ said (sheet_text t)
       go (answers.Refused number n) k h = ap said h
-      go (answers.Model z) k h = absurd (omega arith)
+      go (answers.Model z) k h = absurd (k z refl)
 
   pub model_said : {z : Sizes} → s.answer ≡ answers.Model z →
       verdict_of (model_of z p) next outputs views ≡ verdict t

@@ -4,4 +4,3 @@ pub mod Bounds
 pub mod Joined
 pub mod Reading
 pub mod Called
-pub mod Handed

@@ -1,11 +1,8 @@
 -- `model::arrow` meets its contract. Assumes nothing.
-use mathlib.Core.Path.{◌≡◌, sym, ap, ◌∙◌}
-use Prim.Native.Nat.{ℕ}
-use lib.ListN.{get_or}
+use mathlib.Core.Path.{sym, ap, ◌∙◌}
 use Rattle.laws.specs.Sets.{has}
 use Rattle.laws.proofs.Cells.{beyond}
 use Rattle.laws.proofs.Sets.{has_none}
-use borrow.Author.Rules.{rules}
 use Rattle.model.proofs.arrow.Goals as goal
 
 pub returns : goal.returns

@@ -1,11 +1,6 @@
 -- `model::arrows_fit` meets its contract. Assumes nothing.
-use Prim.Native.Nat.{◌≤◌, ◌-◌}
-use lib.ListN.{get_or}
-use borrow.Author.Rules.{rules}
-use Rattle.laws.specs.Range.{Held}
-use Rattle.model.specs.Limits.{BOXES}
 use Rattle.laws.proofs.Loops.{each}
-use Rattle.model.specs.Refused.{row_fits, arrows_fit}
+use Rattle.model.specs.Refused.{arrows_fit}
 use Rattle.model.proofs.arrows_fit.Goals as goal
 
 pub sources-init : goal.sources-init

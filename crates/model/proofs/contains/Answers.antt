@@ -1,6 +1,5 @@
 -- `model::contains` meets its contract. Assumes nothing.
 use mathlib.Core.Path.{refl, sym}
-use borrow.Author.Rules.{rules}
 use Rattle.laws.specs.Sets.{has}
 use Rattle.laws.proofs.Sets.{has_beyond}
 use Rattle.model.proofs.contains.Goals as goal

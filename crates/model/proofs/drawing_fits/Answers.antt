@@ -1,7 +1,6 @@
 -- `model::drawing_fits` meets its contract. Assumes nothing.
 use Rattle.laws.proofs.Tests.{chain, told}
 use Rattle.model.specs.Refused.{drawing_fits}
-use borrow.Author.Rules.{rules}
 use Rattle.model.proofs.drawing_fits.Goals as goal
 
 pub returns-then-arrows_fit : goal.returns-then-arrows_fit

@@ -1,10 +1,7 @@
 -- `model::highest` meets its contract. Assumes nothing.
 -- Here `c3` is the place three before `c`.
-use Prim.Native.Nat.{◌≤◌, ◌-◌}
 use native.Mathlib.Omega.{arith}
 use mathlib.Core.Path.{refl}
-use borrow.Author.Rules.{rules}
-use Rattle.model.specs.Highest.{Highest}
 use Rattle.model.proofs.HighestEntry.{highest_none, highest_more, highest_all}
 use Rattle.model.proofs.highest.Goals as goal
 

@@ -2,12 +2,7 @@
 -- Here `c3` is the place three before `c`.
 use Rattle.laws.proofs.Range.{held_more}
 use Rattle.laws.proofs.Loops.{read_other, each}
-use Prim.Native.Nat.{◌≤◌, ◌-◌}
 use native.Mathlib.Omega.{arith}
-use mathlib.Core.Bool.{not}
-use lib.Dec.{eqb}
-use lib.ListN.{get_or}
-use Rattle.laws.specs.Range.{Held}
 use Rattle.model.proofs.id_is_new.Goals as goal
 
 pub earlier-init : goal.earlier-init

@@ -1,9 +1,6 @@
 -- `model::id_is_new` meets its contract. Assumes nothing.
 -- Here `c3` is the place three before `c`.
-use Rattle.laws.proofs.Range.{held_more}
-use Rattle.laws.proofs.Loops.{read_other, each}
 use Prim.Native.Nat.{◌≤◌, ◌-◌}
-use native.Mathlib.Omega.{arith}
 use mathlib.Core.Bool.{not}
 use lib.Dec.{eqb}
 use lib.ListN.{get_or}

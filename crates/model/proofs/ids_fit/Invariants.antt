@@ -3,12 +3,9 @@ use Prim.Native.Nat.{◌≤◌, ◌-◌}
 use mathlib.Core.Bool.{not}
 use lib.Dec.{eqb, leb}
 use lib.ListN.{get_or}
-use borrow.Author.Rules.{rules}
 use Rattle.laws.specs.Choice.{both}
 use Rattle.laws.specs.Range.{every, Held}
 use Rattle.model.specs.Limits.{LARGEST_ID}
-use Rattle.laws.proofs.Loops.{each}
-use Rattle.model.specs.Refused.{ids_fit}
 use Rattle.model.proofs.ids_fit.Given as goal
 
 abbrev pub invariant-boxes : goal.invariant-boxes

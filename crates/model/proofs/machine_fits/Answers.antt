@@ -1,7 +1,6 @@
 -- `model::machine_fits` meets its contract. Assumes nothing.
 use Rattle.laws.proofs.Tests.{chain, told}
 use Rattle.model.specs.Refused.{machine_fits}
-use borrow.Author.Rules.{rules}
 use Rattle.model.proofs.machine_fits.Goals as goal
 
 pub returns-then-sizes_fit : goal.returns-then-sizes_fit

@@ -2,7 +2,6 @@
 use Rattle.laws.proofs.Tests.{chain, told}
 use Rattle.model.specs.Refused.{machine_table_fits}
 use Rattle.model.proofs.Good.{machine_good}
-use borrow.Author.Rules.{rules}
 use Rattle.model.proofs.machine_table_fits.Goals as goal
 
 pub next_fits-requires : goal.next_fits-requires

@@ -2,7 +2,6 @@
 use Rattle.laws.proofs.Tests.{chain, told}
 use Rattle.model.specs.Refused.{model_fits}
 use Rattle.model.proofs.Good.{machine_good}
-use borrow.Author.Rules.{rules}
 use Rattle.model.proofs.model_fits.Goals as goal
 
 pub drawing_fits-requires : goal.drawing_fits-requires

@@ -2,7 +2,6 @@
 use Rattle.laws.proofs.Tests.{chain, told}
 use Rattle.model.specs.Refused.{model_table_fits}
 use Rattle.model.proofs.Good.{table_good}
-use borrow.Author.Rules.{rules}
 use Rattle.model.proofs.model_table_fits.Goals as goal
 
 pub drawing_fits-requires : goal.drawing_fits-requires

@@ -1,10 +1,7 @@
 -- `model::next_fits` meets its contract. Assumes nothing.
 -- Here `c3` is the place three before `c`.
-use mathlib.Core.Path.{sym}
-use Prim.Native.Nat.{◌<◌}
 use native.Mathlib.Nat.{mul-le-mul}
 use native.Mathlib.Omega.{arith}
-use borrow.Author.Rules.{rules}
 use Rattle.model.specs.Refused.{next_fits}
 use Rattle.model.proofs.HighestEntry.{rows_test}
 use Rattle.model.proofs.next_fits.Goals as goal

@@ -2,12 +2,7 @@
 -- Here `c3` is the place three before `c`.
 use Rattle.laws.proofs.Range.{held_more}
 use Rattle.laws.proofs.Loops.{read_lt, each}
-use Prim.Native.Nat.{◌≤◌, ◌-◌}
 use native.Mathlib.Omega.{arith}
-use lib.Dec.{ltb}
-use lib.ListN.{get_or}
-use borrow.Author.Rules.{rules}
-use Rattle.laws.specs.Range.{Held}
 use Rattle.model.specs.Refused.{owners_fit}
 use Rattle.model.proofs.owners_fit.Goals as goal
 

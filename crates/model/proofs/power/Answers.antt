@@ -1,10 +1,8 @@
 -- `model::power` meets its contract. Assumes nothing.
-use Prim.Native.Nat.{◌^◌}
 use mathlib.Core.Path.{◌∙◌}
 use native.Mathlib.Nat.{one-mul}
 use native.Mathlib.Omega.{arith}
 use lib.Pow.{shl_exact}
-use borrow.Author.Rules.{rules}
 use Rattle.model.proofs.power.Goals as goal
 
 pub returns : goal.returns

@@ -1,8 +1,4 @@
 -- `model::row_fits` meets its contract. Assumes nothing.
-use Prim.Native.Nat.{◌≤◌, ◌-◌, ◌+◌}
-use lib.Dec.{ltb}
-use lib.ListN.{get_or}
-use Rattle.laws.specs.Range.{Held}
 use Rattle.laws.proofs.Loops.{each}
 use Rattle.model.proofs.row_fits.Goals as goal
 

@@ -3,7 +3,6 @@ use Prim.Native.Nat.{◌≤◌, ◌-◌, ◌+◌}
 use lib.Dec.{ltb}
 use lib.ListN.{get_or}
 use Rattle.laws.specs.Range.{Held}
-use Rattle.laws.proofs.Loops.{each}
 use Rattle.model.proofs.row_fits.Given as goal
 
 abbrev pub invariant-actions : goal.invariant-actions

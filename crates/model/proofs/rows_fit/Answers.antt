@@ -1,11 +1,7 @@
 -- `model::rows_fit` meets its contract. Assumes nothing.
 -- Here `c3` is the place three before `c`.
 use Rattle.laws.proofs.Cells.{row}
-use Prim.Native.Nat.{◌≤◌, ◌-◌, ◌+◌, ◌*◌}
 use native.Mathlib.Omega.{arith}
-use lib.Dec.{ltb}
-use lib.ListN.{get_or}
-use Rattle.laws.specs.Range.{every, Held}
 use Rattle.model.specs.Limits.{STATES, ACTIONS}
 use Rattle.laws.proofs.Loops.{each}
 use Rattle.model.specs.Refused.{next_fits}

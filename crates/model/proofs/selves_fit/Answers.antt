@@ -1,8 +1,4 @@
 -- `model::selves_fit` meets its contract. Assumes nothing.
-use Prim.Native.Nat.{◌≤◌, ◌-◌}
-use borrow.Author.Rules.{rules}
-use Rattle.laws.specs.Range.{Held}
-use Rattle.model.specs.Arrows.{leads}
 use Rattle.laws.proofs.Loops.{each}
 use Rattle.model.specs.Refused.{selves_fit}
 use Rattle.model.proofs.selves_fit.Goals as goal

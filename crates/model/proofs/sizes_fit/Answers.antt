@@ -1,7 +1,6 @@
 -- `model::sizes_fit` meets its contract. Assumes nothing.
 use Rattle.laws.proofs.Tests.{chain, told}
 use Rattle.model.specs.Refused.{sizes_fit}
-use borrow.Author.Rules.{rules}
 use Rattle.model.proofs.sizes_fit.Goals as goal
 
 pub returns-then-is_sized-3 : goal.returns-then-is_sized-3

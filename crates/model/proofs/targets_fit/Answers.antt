@@ -1,5 +1,4 @@
 -- `model::targets_fit` meets its contract. Assumes nothing.
-use borrow.Author.Rules.{rules}
 use borrow.Author.Tests.{lt-ltb, le-ltb}
 use Rattle.laws.specs.Choice.{choose}
 use Rattle.model.specs.Refused.{row_fits}

@@ -1,7 +1,6 @@
 -- `text::find` meets its contract: the end of the part from `at` on is that from `i` on. Assumes nothing.
-use Rattle.std.proofs.Common.{◌≡◌, ◌-◌, length, sym, refl, ◌∙◌, arith, rules}
+use Rattle.std.proofs.Common.{◌≡◌, ◌-◌, length}
 use Rattle.text.specs.Lines.{end_of}
-use Rattle.text.proofs.Parts.{end_here, end_past, end_over}
 use Rattle.text.proofs.find.Given as goal
 
 abbrev pub invariant-loop-i : goal.invariant-loop-i

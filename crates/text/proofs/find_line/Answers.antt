@@ -1,5 +1,5 @@
 -- `text::find_line` meets its contract. Assumes nothing.
-use Rattle.std.proofs.Common.{arith, rules, le-ltb, lt-ltb}
+use Rattle.std.proofs.Common.{arith, le-ltb, lt-ltb}
 use Rattle.text.proofs.Parts.{end_within}
 use Rattle.text.proofs.find_line.Goals as goal
 

@@ -1,5 +1,5 @@
 -- `text::grown` meets its contract. Assumes nothing.
-use Rattle.std.proofs.Common.{arith, rules}
+use Rattle.std.proofs.Common.{arith}
 use Rattle.text.proofs.Digits.{digit_far, digit_over, digit_within}
 use Rattle.text.proofs.grown.Goals as goal
 

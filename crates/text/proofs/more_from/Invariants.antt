@@ -1,7 +1,6 @@
 -- `text::more_from` meets its contract: what is left to read from `i` on says the same as what was from `at` on. Assumes nothing.
-use Rattle.std.proofs.Common.{◌≡◌, ℕ, ◌-◌, ◌<◌, List, length, sym, refl, ◌∙◌, arith, rules}
+use Rattle.std.proofs.Common.{◌≡◌, ℕ, ◌-◌, ◌<◌, List, length}
 use Rattle.text.specs.Lines.{more_from}
-use Rattle.text.proofs.Digits.{digit_no_tab, digit_some, more_over, more_here, more_bad, more_good}
 use Rattle.text.proofs.more_from.Given as goal
 
 pub record Left (limit : ℕ) (line : List ℕ) (at first i value : ℕ) : Type 0 where

@@ -1,5 +1,5 @@
 -- `text::number_from` meets its contract. Assumes nothing.
-use Rattle.std.proofs.Common.{sym, ap, ◌∙◌, arith, rules}
+use Rattle.std.proofs.Common.{sym, ap, ◌∙◌, arith}
 use Rattle.text.specs.Lines.{more_from}
 use Rattle.text.proofs.Digits.{number_over, number_bad, number_good, zero_any}
 use Rattle.text.proofs.number_from.Goals as goal

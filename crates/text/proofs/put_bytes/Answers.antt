@@ -1,5 +1,5 @@
 -- `text::put_bytes` meets its contract: the first `i` bytes are copied. Assumes nothing.
-use Rattle.std.proofs.Common.{◌≡◌, ◌-◌, ◌≤◌, ◌++◌, length, take, drop, sym, refl, ◌∙◌, arith, length-set, rules}
+use Rattle.std.proofs.Common.{◌≡◌, length, sym, refl, ◌∙◌, arith, length-set, rules}
 use lib.Seq.{take-length}
 use borrow.Author.Tests.{lt-leb}
 use Rattle.text.proofs.Buffer.{copy_more, nothing, fits, same_as}

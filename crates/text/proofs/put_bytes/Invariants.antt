@@ -1,8 +1,5 @@
 -- `text::put_bytes` meets its contract: the first `i` bytes are copied. Assumes nothing.
-use Rattle.std.proofs.Common.{◌≡◌, ◌-◌, ◌≤◌, ◌++◌, length, take, drop, sym, refl, ◌∙◌, arith, length-set, rules}
-use lib.Seq.{take-length}
-use borrow.Author.Tests.{lt-leb}
-use Rattle.text.proofs.Buffer.{copy_more, nothing, fits, same_as}
+use Rattle.std.proofs.Common.{◌≡◌, ◌-◌, ◌≤◌, ◌++◌, length, take, drop}
 use Rattle.text.proofs.put_bytes.Given as goal
 
 abbrev pub invariant-loop-i : goal.invariant-loop-i

@@ -1,8 +1,6 @@
 -- `text::put_number` meets its contract: the digits of what is left, with those that are set after them, are the value's. Assumes nothing.
-use Rattle.std.proofs.Common.{◌≡◌, ℕ, zero, suc, ◌+◌, ◌-◌, ◌/◌, ◌%◌, ◌^◌, ◌<◌, ◌≤◌, List, ◌∷◌, ◌++◌, length, take, drop, set, sym, refl, ◌∙◌, append_assoc, append-nil, pow-suc, arith, length-drop, length-set, length-take-le, take_all, drop_at, rules}
-use lib.Seq.{set_split}
+use Rattle.std.proofs.Common.{◌≡◌, ℕ, suc, ◌^◌, ◌<◌, ◌≤◌, List, ◌++◌, length, drop}
 use Rattle.text.specs.Number.{decimal, digits}
-use Rattle.text.proofs.Digits.{digits_one, digits_more}
 use Rattle.text.proofs.put_number.Given as goal
 
 pub record At (value : ℕ) (ds : List ℕ) (left i : ℕ) : Type 0 where

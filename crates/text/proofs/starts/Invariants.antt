@@ -1,8 +1,6 @@
 -- `text::starts` meets its contract: the bytes passed are the same and no tabs, so the answer is that of the rests. Assumes nothing.
-use Rattle.std.proofs.Common.{◌≡◌, ℕ, ◌+◌, ◌-◌, ◌<◌, ◌≤◌, Bool, true, false, eqb, List, [], length, get_or, drop, sym, refl, ap, ◌∙◌, arith, drop_of_length-le, rules, eq-eqb, ne_eqb, eqb-true}
-use borrow.Author.Tests.{eqb-false}
+use Rattle.std.proofs.Common.{◌≡◌, ℕ, ◌-◌, ◌≤◌, List, [], length, get_or, drop}
 use Rattle.text.specs.Lines.{fields, field_from, same}
-use Rattle.text.proofs.Parts.{at, field_here, field_past, field_over, first_field, field_length, same_length}
 use Rattle.text.proofs.starts.Given as goal
 
 pub record At (l w : List ℕ) (i : ℕ) : Type 0 where

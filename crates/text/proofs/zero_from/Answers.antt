@@ -1,5 +1,5 @@
 -- `text::zero_from` meets its contract. Assumes nothing.
-use Rattle.std.proofs.Common.{refl, arith, rules}
+use Rattle.std.proofs.Common.{refl, arith}
 use Rattle.text.proofs.Digits.{more_over, more_here, more_zero}
 use Rattle.text.proofs.zero_from.Goals as goal
 

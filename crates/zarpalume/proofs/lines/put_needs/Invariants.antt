@@ -1,0 +1,14 @@
+-- `zarpalume::lines::put_needs` meets its contract. Assumes nothing.
+use mathlib.Core.Path.{◌≡◌}
+use Prim.Native.Nat.{◌≤◌, ◌-◌, ◌*◌}
+use native.Mathlib.Omega.{arith}
+use borrow.Author.Rules.{rules}
+use Rattle.zarpalume.specs.Lines.{need_lines}
+use Rattle.zarpalume.proofs.Writing.{Growing, growing_none, need_more}
+use Rattle.zarpalume.proofs.lines.put_needs.Given as goal
+
+abbrev pub invariant-pairs : goal.invariant-pairs
+invariant-pairs l = (l.k ≤ l.count) × Growing l.initial.tail l.tail l.at (need_lines l.ids l.list l.k) (27 * l.k)
+
+abbrev pub decreases-pairs : goal.decreases-pairs
+decreases-pairs l = l.count - l.k
