@@ -5,4 +5,4 @@ use Rattle.verdict.specs.declared.Input.TheVariants.{Came, Failed}
 
 abbrev pub Within : Input → ℕ → Type 0
 Within (Came count) n = count ≤ n
-Within Failed n = Unit {0}
+Within (Failed error) n = Unit {0}

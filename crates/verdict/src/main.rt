@@ -4,7 +4,7 @@
 ghost use Rattle.std.specs.Prelude.{length};
 ghost use Rattle.verdict.specs.Input.{Within};
 
-use libc::{STDIN_FILENO, STDOUT_FILENO};
+use std::io::{self, Read, Write};
 
 // One byte over the limit: an input that is longer is refused for it, and no more of it is read.
 const INPUT_BYTES: usize = model::SHEET_BYTES + 1;
@@ -13,38 +13,34 @@ const INPUT_BYTES: usize = model::SHEET_BYTES + 1;
 #[derive(Drop)]
 enum Input {
     Came(usize),
-    Failed,
+    Failed(io::Error),
 }
 
 // Reads until the buffer is full or the input ends: a pipe gives it in pieces.
-fn read_input(input: &mut [u8]) -> Input
+fn read_input<R: Read>(reader: &mut R, input: &mut [u8]) -> Input
     ensures { Within result (length input.new) }
 {
     let mut count = 0;
     'pieces: while count < input.len() {
-        let got = libc::read(STDIN_FILENO, &mut input[count..]);
-        if got < 0 {
-            return Input::Failed;
+        match reader.read(&mut input[count..]) {
+            Err(error) => return Input::Failed(error),
+            Ok(0) => return Input::Came(count),
+            Ok(more) => count += more,
         }
-        let more = io::count(got, &input[count..]);
-        if more == 0 {
-            return Input::Came(count);
-        }
-        count += more;
     }
     Input::Came(count)
 }
 
-fn main() {
+fn main(rt: HostRuntime) -> io::Result<()> {
     let mut input = [0u8; INPUT_BYTES];
-    let Input::Came(count) = read_input(&mut input) else {
-        os::fail(b"standard input");
-        return;
+    let count = match read_input(&mut rt.stdin(), &mut input) {
+        Input::Came(count) => count,
+        Input::Failed(error) => return eprintln!(rt; "standard input: {error}"),
     };
     let mut verdict = [0u8; model::VERDICT_BYTES];
     let length = zarpalume::zarpalume_verdict(&input[0..count], &mut verdict);
-    if io::write_all(STDOUT_FILENO, &verdict[0..length]) {
-        return;
+    match rt.stdout().write_all(&verdict[0..length]) {
+        Ok(()) => Ok(()),
+        Err(error) => eprintln!(rt; "standard output: {error}"),
     }
-    os::fail(b"standard output");
 }
