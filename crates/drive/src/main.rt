@@ -9,7 +9,7 @@ mod told;
 ghost use Rattle.std.specs.Prelude.{◌≡◌, ◌+◌, ◌≤◌, length};
 ghost use Rattle.drive.specs.Limits.{WINDOW_BYTES};
 
-use libc::{STDIN_FILENO, STDOUT_FILENO};
+use std::io::{Read, Write};
 
 // The longest table, handed in or lent, and the most bytes that are lent.
 pub(crate) const TABLE_ENTRIES: usize = 8192;
@@ -38,42 +38,45 @@ fn slide(window: &mut [u8], start: usize, end: usize)
 }
 
 // Reads on behind the first `left` bytes. How many bytes came: 0 at the end of the input, after a failed read, and in a full window.
-fn read_on(window: &mut [u8], left: usize) -> usize
+fn read_on<R: Read>(reader: &mut R, window: &mut [u8], left: usize) -> usize
     requires { left ≤ length window.old }
     ensures { left + result ≤ length window.new }
 {
-    let got = libc::read(STDIN_FILENO, &mut window[left..]);
-    io::count(got, &window[left..])
+    match reader.read(&mut window[left..]) {
+        Ok(count) => count,
+        Err(_) => 0,
+    }
 }
 
 // Whether the answer had room: then it is written.
-fn sent(answer: &[u8; put::ANSWER_BYTES], count: usize) -> bool {
+fn sent<W: Write>(writer: &mut W, answer: &[u8; put::ANSWER_BYTES], count: usize) -> bool {
     let bytes: &[u8] = answer;
     if bytes.len() < count {
         return false;
     }
-    io::write_all(STDOUT_FILENO, &bytes[0..count]);
+    // Whoever stops listening wants no more answers.
+    let _written = writer.write_all(&bytes[0..count]);
     true
 }
 
 // Answers the first request. How many bytes it has: 0 where it is not whole, breaks the layout, or its answer has no room.
-fn answer_first(requests: &[u8]) -> usize
+fn answer_first<W: Write>(writer: &mut W, requests: &[u8]) -> usize
     ensures { result ≤ length requests.now }
 {
     let mut at = 0;
-    let mut answer = io::large_buffer();
+    let mut answer = [0u8; put::ANSWER_BYTES];
     let mut to = 0;
     calls::answer(requests, &mut at, &mut answer, &mut to);
     if requests.len() < at {
         return 0;
     }
-    if sent(&answer, to) {
+    if sent(writer, &answer, to) {
         return at;
     }
     0
 }
 
-fn main() {
+fn main(rt: HostRuntime) {
     let mut window = window();
     let mut start = 0;
     let mut end = 0;
@@ -81,11 +84,11 @@ fn main() {
     let mut turns = u64::MAX;
     'requests: while turns > 0 {
         turns -= 1;
-        let taken = answer_first(&window[start..end]);
+        let taken = answer_first(&mut rt.stdout(), &window[start..end]);
         if taken == 0 {
             let left = end - start;
             slide(&mut window, start, end);
-            let more = read_on(&mut window, left);
+            let more = read_on(&mut rt.stdin(), &mut window, left);
             if more == 0 {
                 return;
             }

@@ -6,7 +6,7 @@ use crate::told::Told;
 use crate::{LENT_BYTES, LOST, TABLE_ENTRIES};
 use reach::Set;
 
-// A large buffer of `io`: room for the longest answer, the reader's with three tables.
+// Room for the longest answer, the reader's with three tables.
 pub(crate) const ANSWER_BYTES: usize = 65536;
 
 pub(crate) fn n1(answer: &mut [u8; ANSWER_BYTES], to: &mut usize, value: u8) {

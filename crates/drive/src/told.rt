@@ -4,7 +4,7 @@ use views::Judgement;
 pub(crate) const VALUES: usize = 4;
 
 // Number and line are 0 where nothing is refused; the values are 0 where something is.
-#[derive(Drop)]
+#[derive(Clone, Copy)]
 pub(crate) struct Told {
     pub(crate) number: usize,
     pub(crate) line: usize,
