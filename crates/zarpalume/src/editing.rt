@@ -7,8 +7,7 @@ ghost use Rattle.edits.specs.Edited.{Make, Undo, Drop, outcome, edited};
 use edits::BoxRecord;
 
 // A new box, behind the others.
-#[unsafe(no_mangle)]
-pub extern "C" fn zarpalume_add(
+pub fn zarpalume_add(
     list: &mut [BoxRecord],
     history: &mut [u32],
     count: &mut u32,
@@ -20,8 +19,7 @@ pub extern "C" fn zarpalume_add(
 }
 
 // The box with this id goes, with all its arrows.
-#[unsafe(no_mangle)]
-pub extern "C" fn zarpalume_delete(
+pub fn zarpalume_delete(
     list: &mut [BoxRecord],
     history: &mut [u32],
     count: &mut u32,
@@ -32,8 +30,7 @@ pub extern "C" fn zarpalume_delete(
     edits::edit(list, history, count, edits::DELETE, id, 0)
 }
 
-#[unsafe(no_mangle)]
-pub extern "C" fn zarpalume_draw(
+pub fn zarpalume_draw(
     list: &mut [BoxRecord],
     history: &mut [u32],
     count: &mut u32,
@@ -45,8 +42,7 @@ pub extern "C" fn zarpalume_draw(
     edits::edit(list, history, count, edits::DRAW, source, target)
 }
 
-#[unsafe(no_mangle)]
-pub extern "C" fn zarpalume_erase(
+pub fn zarpalume_erase(
     list: &mut [BoxRecord],
     history: &mut [u32],
     count: &mut u32,
@@ -59,8 +55,7 @@ pub extern "C" fn zarpalume_erase(
 }
 
 // The list as it was before the newest edit of the history.
-#[unsafe(no_mangle)]
-pub extern "C" fn zarpalume_undo(
+pub fn zarpalume_undo(
     list: &mut [BoxRecord],
     history: &mut [u32],
     count: &mut u32,
@@ -71,8 +66,7 @@ pub extern "C" fn zarpalume_undo(
 }
 
 // The whole history goes, and boxes and arrows stay.
-#[unsafe(no_mangle)]
-pub extern "C" fn zarpalume_drop(
+pub fn zarpalume_drop(
     list: &mut [BoxRecord],
     history: &mut [u32],
     count: &mut u32,

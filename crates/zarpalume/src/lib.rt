@@ -1,7 +1,7 @@
 // The verdict on a sheet, and the one call for a host.
 #![tactic(auto)]
 
-mod editing;
+pub mod editing;
 mod lines;
 
 ghost use Rattle.std.specs.Prelude.{◌≡◌, ◌++◌, ◌+◌, ◌≤◌, length, replicate};
@@ -98,8 +98,7 @@ fn put_refusal(verdict: &mut [u8], answer: Answer) -> usize
 }
 
 // The verdict on a sheet, into a buffer of exactly VERDICT_BYTES, with zeros after it; any other buffer is left alone, and 0 answered.
-#[unsafe(no_mangle)]
-pub extern "C" fn zarpalume_verdict(sheet: &[u8], verdict: &mut [u8]) -> usize
+pub fn zarpalume_verdict(sheet: &[u8], verdict: &mut [u8]) -> usize
     ensures { call result verdict.new ≡ call_of sheet.now verdict.old }
 {
     if verdict.len() != model::VERDICT_BYTES {
