@@ -53,7 +53,8 @@ pub(crate) fn joins(
     requires t_lt_states { (t < states) × (s < states) }
     ensures { result ≡ both (flag_at inside.now t) (agrees (step_in actions next.now) actions (entry c.now) t s) }
 {
-    if inside[t] {
+    let within = inside[t];
+    if within {
         return agree(next, c, states, actions, t, s);
     }
     false

@@ -141,7 +141,8 @@ pub fn number_from(line: &[u8], at: usize, limit: u32) -> Field
             end: find(line, at, 9),
         };
     };
-    if first == 0 {
+    let zero = first == 0;
+    if zero {
         return zero_from(line, at + 1);
     }
     more_from(line, at + 1, limit, first)

@@ -101,7 +101,8 @@ fn put_refusal(verdict: &mut [u8], answer: Answer) -> usize
 pub fn zarpalume_verdict(sheet: &[u8], verdict: &mut [u8]) -> usize
     ensures { call result verdict.new ≡ call_of sheet.now verdict.old }
 {
-    if verdict.len() != model::VERDICT_BYTES {
+    let misfits = verdict.len() != model::VERDICT_BYTES;
+    if misfits {
         return 0;
     }
     zero(verdict);

@@ -4,16 +4,13 @@ use native.Mathlib.Omega.{arith}
 use Rattle.laws.specs.Choice.{both}
 use Rattle.needs.proofs.rounds.joins.Goals as goal
 
-pub bounds-inside-t : goal.bounds-inside-t
-bounds-inside-t c = omega (arith, c.requires.steps.states_most, c.requires.t_lt_states.0)
-
 pub agree-requires : goal.agree-requires
 agree-requires c = record { steps = c.requires.steps; t_lt_states = c.requires.t_lt_states }
 
-pub returns-then-inside-t : goal.returns-then-inside-t
+pub returns-then-within : goal.returns-then-within
 unfolding both
-returns-then-inside-t c = rw c.if-inside-t.true c.agree.ensures
+returns-then-within c = rw c.if-within.true c.agree.ensures
 
 pub returns : goal.returns
 unfolding both
-returns c = rw c.if-inside-t.false
+returns c = rw c.if-within.false
