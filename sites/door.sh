@@ -22,8 +22,9 @@ need() { # PROGRAM WHERE-IT-COMES-FROM
   command -v "$1" >/dev/null || fail "$1 is missing; $2"
 }
 
+# What the prover keeps in out/ is no source.
 is_old() { # FILE SOURCE...
-  [[ ! -f $1 || -n $(find "${@:2}" -newer "$1" -print -quit) ]]
+  [[ ! -f $1 || -n $(find "${@:2}" -name out -prune -o -type f -newer "$1" -print -quit) ]]
 }
 
 # Renamed when it is whole, so that a stopped one is made again.
@@ -49,7 +50,7 @@ show_progress() {
 
 prove() {
   need rt "it comes with Rattle, and proves and builds the library"
-  "$top/tools/fresh" "${archive#"$top/"}" rt staticlib zarpalume 2>&1 | tee "$folder/proof.log" | show_progress
+  "$top/tools/fresh" "${archive#"$top/"}" tools/build archive 2>&1 | tee "$folder/proof.log" | show_progress
   ((PIPESTATUS[0] == 0)) || { cat "$folder/proof.log" >&2 && fail "the library could not be proved"; }
 }
 

@@ -23,7 +23,7 @@ want_compilers() {
 
 # The proved library; the first host test that asks has it built.
 make_archive() {
-  tools/fresh "$archive" rt staticlib zarpalume >"$folder/staticlib.log" 2>&1 || { cat "$folder/staticlib.log"; return 1; }
+  tools/fresh "$archive" tools/build archive >"$folder/staticlib.log" 2>&1 || { cat "$folder/staticlib.log"; return 1; }
 }
 
 # The oldest rustc that knows what the tests' Rust uses; a distribution may have one that is older.
@@ -75,10 +75,10 @@ make_edits() {
   want_compilers && make_archive && make_cpp edits "$cpp_compiler" "$archive"
 }
 
-# make_program NAME: a proved program, which the gate has built already.
+# make_program NAME: a proved program.
 make_program() {
   want_compilers || return 1
-  tools/fresh "target/bin/$1" rt check "$1" >"$folder/$1.log" 2>&1 || { cat "$folder/$1.log"; return 1; }
+  tools/fresh "target/bin/$1" tools/build "$1" >"$folder/$1.log" 2>&1 || { cat "$folder/$1.log"; return 1; }
 }
 
 passed=0

@@ -41,7 +41,7 @@ use Rattle.needs.proofs.Answering.{list_found}
 use Rattle.needs.proofs.Demand.{depth_at, demand_3}
 use Rattle.sheet.specs.Reading.{model_of, Parts, model, sheet_text}
 use Rattle.sheet.proofs.Fits.{read_fits}
-use Rattle.cases.specs.Cases.{Views, accepted, output, respect, step}
+use Rattle.cases.specs.Cases.{Views, accepted}
 use Rattle.zarpalume.specs.Words as words
 use Rattle.zarpalume.specs.Lines.{line, views_line, need_lines, depth_lines, reach_line}
 use Rattle.zarpalume.specs.Verdict.{blank, pairs, verdict_of}

@@ -1,6 +1,6 @@
 -- Whoever meets demand 2 still accepts with more arrows drawn, and so on the verdict's bytes.
 -- Assumes nothing.
-use mathlib.Core.Path.{◌≡◌, refl, sym, ap, subst, ◌∙◌}
+use mathlib.Core.Path.{◌≡◌, refl, sym, subst, ◌∙◌}
 use mathlib.Core.Bool.{Bool, true, false, ◌&&◌, ◌||◌}
 use mathlib.Core.List.{List, [], ◌∷◌, ◌++◌}
 use Prim.Native.Nat.{ℕ, ◌<◌, ◌≤◌}
@@ -10,7 +10,6 @@ use lib.ListN.{length}
 use Rattle.laws.proofs.Tests.{not_both}
 use Rattle.noninterference.specs.Purge.{Policy, intransitive}
 use Rattle.noninterference.specs.Conditions.{Conditions, ByView}
-use Rattle.noninterference.specs.Extends.{Extends}
 use Rattle.noninterference.proofs.Extends.{extends_conditions}
 use Rattle.model.specs.Limits.{SHEET_BYTES}
 use Rattle.model.specs.Denoted.{machine_of, policy_of, view_of}
@@ -26,8 +25,8 @@ use Rattle.demands.specs.Calls.{Bytes, Table}
 use Rattle.demands.specs.Demands.{Demand2, DemandOnBytes, Meets}
 use Rattle.demands.specs.Printed as paper
 use Rattle.demands.specs.Printed.{Drawn, Paper, Good, print, ids_of}
-use Rattle.demands.specs.Meant.{sizes_of, parts_of, leads, goes, arrow_at}
-use Rattle.demands.specs.AnotherArrow.{Redrawn, NeverHurts, with_arrows, NeverHurtsOnBytes}
+use Rattle.demands.specs.Meant.{sizes_of, parts_of, leads, goes}
+use Rattle.demands.specs.AnotherArrow.{NeverHurts, with_arrows, NeverHurtsOnBytes}
 use Rattle.demands.proofs.Meant.{printed_means, arrow_at_lem}
 
 -- ---- the judge

@@ -4,7 +4,7 @@ use mathlib.Core.Path.{◌≡◌, refl, sym, ap, ◌∙◌}
 use mathlib.Core.Logic.{◌≢◌}
 use mathlib.Core.Bool.{Bool, true, false}
 use mathlib.Core.List.{List, [], ◌∷◌}
-use Prim.Native.Nat.{ℕ, ◌*◌, ◌-◌, ◌<◌}
+use Prim.Native.Nat.{ℕ, ◌*◌, ◌<◌}
 use native.Mathlib.Omega.{arith}
 use lib.ListN.{length, get_or, replicate, length-replicate, take-append-drop}
 use Rattle.laws.specs.Choice.{both, either, brings, without, choose}
@@ -13,14 +13,13 @@ use Rattle.laws.proofs.Tests.{not_both}
 use Rattle.noninterference.specs.Reached.{Reach}
 use Rattle.noninterference.specs.Rounds.{sees_alike, alike, needed_in, arrows_from, arrows_upto}
 use Rattle.noninterference.proofs.NeededList.{list_unique}
-use Rattle.noninterference.proofs.Reached.{reach}
 use Rattle.noninterference.proofs.Rounds.{depth_unique}
 use Rattle.model.specs.Limits.{BOXES, NEXT_ENTRIES, OUTPUT_ENTRIES, VIEW_ENTRIES, LIST_ENTRIES}
 use Rattle.model.specs.Denoted.{machine_of}
 use Rattle.model.specs.declared.Machine.{Machine}
 use Rattle.model.specs.declared.Model.{Model}
 use Rattle.model.proofs.Good.{model_table_good}
-use Rattle.register.specs.Tables.{column, by_state, draws}
+use Rattle.register.specs.Tables.{column, by_state}
 use Rattle.views.specs.declared.Judgement.{Judgement}
 use Rattle.views.specs.declared.Judgement.TheVariants as judgements
 use Rattle.needs.specs.Demand.{Demand}
@@ -32,7 +31,6 @@ use Rattle.text.specs.Number.{digit, more, number}
 use Rattle.sheet.specs.Numbers.{each, numbers, record_of}
 use Rattle.sheet.specs.Records.{plain, sheet_line, box_line, act_line, go_line, flow_line, view_line}
 use Rattle.sheet.specs.Phases.{phase, flows}
-use Rattle.sheet.specs.Phases as phases
 use Rattle.sheet.specs.Reading.{Reading, model, refusal, parts, drawing, zeros, sheet_lines, sheet_text}
 use Rattle.sheet.specs.declared.Answer.TheVariants as sheets
 use Rattle.sheet.proofs.Table.{means_refused}

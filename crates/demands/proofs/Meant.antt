@@ -9,7 +9,7 @@ use native.Mathlib.Nat.{mul-le-mul, mul-add-div_right, div-eq_of_lt, mul-add-mod
 use lib.Dec.{eqb, ltb}
 use lib.ListN.{length, get_or, set, drop, replicate, length-replicate, length-map, get_or-append}
 use lib.Seq.{sets, sets-eq, get_or-set_same, get_or-set_other}
-use borrow.Author.Tests.{eq-eqb, ne_eqb, eqb-true, eqb-false, lt-ltb, le-ltb, ltb-true}
+use borrow.Author.Tests.{eq-eqb, eqb-true, eqb-false, lt-ltb, le-ltb, ltb-true}
 use Rattle.laws.proofs.Tables.{tabulated, tabulate_at, drop_zeros}
 use Rattle.laws.proofs.Cells.{cell}
 use Rattle.laws.proofs.Tests.{by_test, not_both}

@@ -19,7 +19,7 @@ use Rattle.sheet.specs.Numbers.{on_record}
 use Rattle.sheet.specs.Records.{sized, position, sheet_line, act_line, go_line, view_line}
 use Rattle.model.specs.Arrows.{selves}
 use Rattle.sheet.specs.Phases.{Got, got, refused, Steps, steps, boxes, acts, goes, flows, views}
-use Rattle.sheet.specs.Reading.{on_got, Drawn, drawing, Parts, parts_as, parts, model, refusal, finish, sheet_lines, zeros, sheet_text}
+use Rattle.sheet.specs.Reading.{on_got, drawing, Parts, parts_as, parts, model, refusal, finish, sheet_lines, zeros, sheet_text}
 use Rattle.sheet.proofs.Good.{both_true, sheet_good}
 use Rattle.demands.specs.Printed as paper
 use Rattle.demands.specs.Printed.{Row, Box, Step, Paper, Good, Each, Boxes, Known, Arrow, ids_of, box_row, act_row, go_row, arrow_row, view_row, rows_from, rows_of, PrintedFrom}

@@ -2,7 +2,7 @@
 -- Assumes nothing.
 use mathlib.Core.Path.{◌≡◌, refl, sym, ap, ◌∙◌}
 use mathlib.Core.Logic.{◌↔◌}
-use mathlib.Core.Bool.{Bool, true, false}
+use mathlib.Core.Bool.{true}
 use mathlib.Core.List.{List, [], ◌∷◌, ◌++◌, append-nil}
 use Prim.Native.Nat.{ℕ, zero, suc, ◌+◌, ◌-◌, ◌*◌, ◌/◌, ◌%◌, ◌<◌, ◌≤◌}
 use native.Mathlib.Omega.{arith}
@@ -17,7 +17,7 @@ use Rattle.sheet.specs.Records.{position}
 use Rattle.sheet.specs.Phases as phases
 use Rattle.model.specs.Arrows.{selves}
 use Rattle.sheet.specs.Phases.{Got, got, Steps, steps, boxes, acts, goes, flows, views}
-use Rattle.sheet.specs.Reading.{Drawn, drawn_as, drawing, Parts, parts_as, parts, Reading, model, refusal, sheet_lines, zeros, sheet_text}
+use Rattle.sheet.specs.Reading.{drawn_as, drawing, Parts, parts_as, parts, Reading, model, refusal, sheet_lines, zeros, sheet_text}
 use Rattle.sheet.specs.Words as words
 use Rattle.sheet.specs.Meaning.{RefusedText}
 use Rattle.sheet.proofs.Table.{refused_means, means_refused}

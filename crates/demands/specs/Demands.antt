@@ -1,5 +1,5 @@
 -- The three demands: what the calls must answer, whoever answers. Everything that is named here stands in `specs/`.
-use Rattle.std.specs.Prelude.{◌≡◌, ◌↔◌, false, [], ◌∷◌, ◌++◌, ℕ, ◌-◌, ◌<◌, length, get_or, replicate}
+use Rattle.std.specs.Prelude.{◌≡◌, ◌↔◌, false, [], ◌∷◌, ◌++◌, ℕ, ◌<◌, length, get_or, replicate}
 use Rattle.std.proofs.Math.Option.{some}
 use Rattle.noninterference.specs.Purge.{intransitive}
 use Rattle.noninterference.specs.Secure.{Secure}

@@ -14,7 +14,7 @@ use Rattle.laws.proofs.Tests.{by_test, both_true, both_of, both_no}
 use Rattle.laws.proofs.Bits.{power_small, power_pos}
 use Rattle.model.specs.Limits.{BOXES, EDITS, EDIT_WORDS}
 use Rattle.edits.specs.Records.{at, boxes}
-use Rattle.edits.specs.History.{History, past, ADD, DELETE, DRAW, none, entry, newest, ending, fresh}
+use Rattle.edits.specs.History.{History, past, ADD, DELETE, DRAW, none, newest, ending, fresh}
 use Rattle.edits.specs.Allowed.{allowed}
 use Rattle.edits.specs.Plan.{plan}
 use Rattle.edits.specs.Done.{done, undone}

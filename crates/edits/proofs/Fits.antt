@@ -15,7 +15,7 @@ use Rattle.laws.proofs.Tests.{by_test, not_both, both_true, both_of, brings_at}
 use Rattle.laws.proofs.Bits.{bit_none, bit_high, bit_drawn, bit_erased, bit_part, bit_draw, bit_erase, draw_small}
 use Rattle.model.specs.Limits.{BOXES, EDITS}
 use Rattle.edits.specs.Records.{blank, at, boxes, place}
-use Rattle.edits.specs.History.{History, ADD, DELETE, DRAW, ERASE, entry, newest, rest, deleted}
+use Rattle.edits.specs.History.{History, ADD, DELETE, DRAW, ERASE, newest, rest, deleted}
 use Rattle.edits.specs.Allowed.{made_arrow, made, good_entry, allowed}
 use Rattle.edits.specs.Moved.{with_arrows, column_of, without_box, with_box}
 use Rattle.edits.specs.Plan.{Change, Add, Delete, Draw, Erase, yes, added, deletion, arrow, plan_arrow, plan_change, plan}

@@ -1,5 +1,5 @@
 -- What the purge call answers, and what its buffer then holds.
-use Rattle.std.specs.Prelude.{◌≡◌, Bool, true, List, ◌++◌, ℕ, ◌+◌, ◌-◌, ◌*◌, ◌<◌, eqb, ltb, leb, length, get_or, replicate}
+use Rattle.std.specs.Prelude.{◌≡◌, Bool, true, List, ◌++◌, ℕ, ◌-◌, ◌<◌, eqb, ltb, leb, length, get_or, replicate}
 use Rattle.laws.specs.Choice.{both, choose}
 use Rattle.laws.specs.Range.{every}
 use Rattle.noninterference.specs.Purge as kinds

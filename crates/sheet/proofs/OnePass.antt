@@ -1,9 +1,8 @@
 -- Laws of reading in one pass: a number digit by digit, and the line that its numbers make. Assumes nothing.
-use Prim.Native.Nat.{ℕ, zero, suc, ◌+◌, ◌-◌, ◌<◌, ◌≤◌}
+use Prim.Native.Nat.{ℕ, zero, suc, ◌+◌, ◌-◌, ◌<◌}
 use mathlib.Core.Path.{◌≡◌, refl, sym, ap, ◌∙◌}
-use mathlib.Core.List.{List, [], ◌∷◌, ◌++◌, append_assoc, append-nil}
+use mathlib.Core.List.{List, [], ◌∷◌, ◌++◌, append_assoc}
 use mathlib.Core.Bool.{Bool, true, false, cond}
-use mathlib.Core.Logic.{⊎_elim}
 use native.Mathlib.Omega.{arith}
 use native.Mathlib.Decide.{dec_lt}
 use native.Mathlib.Numerals.{add-one}
@@ -11,10 +10,7 @@ use lib.ListN.{length, get_or, set, take, drop, replicate, length-append, length
 use lib.Seq.{take-length, take-suc, append_snoc, get_or-drop, get_or-append_seam, take-append_seam}
 use lib.Dec.{eqb}
 use borrow.Author.Tests.{eqb-true, lt-ltb, eq-eqb, ne_eqb}
-use denote.Enum.Declared.{tag_of}
-use types.Run.{OneOf}
 use Rattle.laws.specs.Lists.{All}
-use Rattle.model.specs.Limits.{LARGEST_ID, LARGEST_NUMBER}
 use Rattle.text.specs.declared.Number.{Number}
 use Rattle.text.specs.declared.Number.TheVariants.{Good, Bad}
 use Rattle.text.specs.Number.{on_number, digit, more, number}
@@ -23,14 +19,12 @@ use Rattle.text.proofs.Digits.{digit_not_low}
 use Rattle.text.proofs.Parts as parts
 use Rattle.sheet.specs.declared.Digits.{Digits}
 use Rattle.sheet.specs.declared.Digits.TheVariants.{Read, Other}
-use Rattle.sheet.specs.contracts.Arrow as arrows
 use Rattle.sheet.specs.declared.Arrow.{Arrow}
 use Rattle.sheet.specs.declared.Arrow.TheVariants as arrow
 use Rattle.sheet.specs.declared.Flow.{Flow}
-use Rattle.sheet.specs.declared.Flow.TheVariants as flow
 use Rattle.sheet.specs.declared.Record.TheVariants.{Numbers}
 use Rattle.sheet.specs.declared.Taken.{Taken}
-use Rattle.sheet.specs.declared.Taken.TheVariants.{Took, Stopped}
+use Rattle.sheet.specs.declared.Taken.TheVariants.{Took}
 use Rattle.sheet.specs.Words as words
 use Rattle.sheet.specs.Numbers.{four, each, numbers, word, record_of}
 use Rattle.sheet.specs.Records.{go_limits, view_limits, arrow_limits, go_line, view_line, arrow_line, flow_line, on_flow}

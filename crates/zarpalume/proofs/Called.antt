@@ -2,14 +2,11 @@
 -- Assumes nothing.
 use mathlib.Core.Path.{◌≡◌, refl, sym, ◌∙◌, ap, subst}
 use mathlib.Core.Bool.{false}
-use mathlib.Core.List.{List, [], ◌∷◌, ◌++◌}
+use mathlib.Core.List.{List, ◌++◌}
 use Prim.Native.Nat.{ℕ, ◌-◌, ◌≤◌}
-use native.Mathlib.Omega.{arith}
 use lib.Dec.{eqb}
 use lib.ListN.{length, drop, replicate}
 use borrow.Author.Tests.{eq-eqb}
-use types.Run.{OneOf}
-use denote.Enum.Declared.{tag_of}
 use Rattle.laws.proofs.Tables.{drop_zeros}
 use Rattle.laws.proofs.Tests.{choose_no, choose_yes}
 use Rattle.model.specs.Limits.{NEXT_ENTRIES, OUTPUT_ENTRIES, VIEW_ENTRIES, VERDICT_BYTES, BOXES}
@@ -19,7 +16,6 @@ use Rattle.model.specs.declared.Machine.{Machine}
 use Rattle.model.specs.declared.Model.{Model}
 use Rattle.model.proofs.Good.{model_table_good}
 use Rattle.text.specs.Written.{Written}
-use Rattle.sheet.specs.contracts.Answer as answered
 use Rattle.sheet.proofs.Fits.{read_fits}
 use Rattle.sheet.specs.declared.Answer.{Answer}
 use Rattle.sheet.specs.declared.Answer.TheVariants as answers

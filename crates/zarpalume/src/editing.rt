@@ -7,12 +7,7 @@ ghost use Rattle.edits.specs.Edited.{Make, Undo, Drop, outcome, edited};
 use edits::BoxRecord;
 
 // A new box, behind the others.
-pub fn zarpalume_add(
-    list: &mut [BoxRecord],
-    history: &mut [u32],
-    count: &mut u32,
-    id: u32,
-) -> u32
+pub fn zarpalume_add(list: &mut [BoxRecord], history: &mut [u32], count: &mut u32, id: u32) -> u32
     ensures { outcome result list.new count.new history.new ≡ edited list.old (past count.old history.old) (Make (Add id)) }
 {
     edits::edit(list, history, count, edits::ADD, id, 0)
@@ -55,22 +50,14 @@ pub fn zarpalume_erase(
 }
 
 // The list as it was before the newest edit of the history.
-pub fn zarpalume_undo(
-    list: &mut [BoxRecord],
-    history: &mut [u32],
-    count: &mut u32,
-) -> u32
+pub fn zarpalume_undo(list: &mut [BoxRecord], history: &mut [u32], count: &mut u32) -> u32
     ensures { outcome result list.new count.new history.new ≡ edited list.old (past count.old history.old) Undo }
 {
     edits::edit(list, history, count, edits::UNDO, 0, 0)
 }
 
 // The whole history goes, and boxes and arrows stay.
-pub fn zarpalume_drop(
-    list: &mut [BoxRecord],
-    history: &mut [u32],
-    count: &mut u32,
-) -> u32
+pub fn zarpalume_drop(list: &mut [BoxRecord], history: &mut [u32], count: &mut u32) -> u32
     ensures { outcome result list.new count.new history.new ≡ edited list.old (past count.old history.old) Drop }
 {
     edits::edit(list, history, count, edits::DROP, 0, 0)

@@ -1,9 +1,5 @@
 -- `drive::main` is safe and ends. Assumes nothing.
-use mathlib.Core.Path.{◌≡◌}
-use Prim.Native.Nat.{◌≤◌}
-use lib.ListN.{length}
 use borrow.Author.Rules.{rules}
-use Rattle.drive.specs.Limits.{WINDOW_BYTES}
 use Rattle.drive.proofs.main.Goals as goal
 
 pub requests-preserved-then-taken-eq0 : goal.requests-preserved-then-taken-eq0

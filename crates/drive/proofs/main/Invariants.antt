@@ -2,7 +2,6 @@
 use mathlib.Core.Path.{◌≡◌}
 use Prim.Native.Nat.{◌≤◌}
 use lib.ListN.{length}
-use borrow.Author.Rules.{rules}
 use Rattle.drive.specs.Limits.{WINDOW_BYTES}
 use Rattle.drive.proofs.main.Given as goal
 

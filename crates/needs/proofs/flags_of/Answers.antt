@@ -3,11 +3,10 @@
 use borrow.Author.Rules.{rules}
 use native.Mathlib.Omega.{arith}
 use mathlib.Core.Path.{◌≡◌, refl}
-use Prim.Native.Nat.{◌≤◌, ◌-◌}
 use lib.ListN.{length}
 use Rattle.model.specs.Limits.{STATES}
 use Rattle.reach.specs.Set.{listed}
-use Rattle.needs.proofs.Answering.{CopiedTo, copied_none, copied_more, copied_all}
+use Rattle.needs.proofs.Answering.{copied_none, copied_more, copied_all}
 use Rattle.needs.proofs.flags_of.Goals as goal
 
 pub states-init : goal.states-init

@@ -1,13 +1,9 @@
 -- `needs::flags_of` meets its contract. The loop's invariant: the flags passed are copied.
 -- Assumes nothing.
-use borrow.Author.Rules.{rules}
-use native.Mathlib.Omega.{arith}
-use mathlib.Core.Path.{◌≡◌, refl}
 use Prim.Native.Nat.{◌≤◌, ◌-◌}
-use lib.ListN.{length}
 use Rattle.model.specs.Limits.{STATES}
 use Rattle.reach.specs.Set.{listed}
-use Rattle.needs.proofs.Answering.{CopiedTo, copied_none, copied_more, copied_all}
+use Rattle.needs.proofs.Answering.{CopiedTo}
 use Rattle.needs.proofs.flags_of.Given as goal
 
 abbrev pub invariant-states : goal.invariant-states

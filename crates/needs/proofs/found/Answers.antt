@@ -1,6 +1,5 @@
 -- `needs::found` meets its contract.
 -- Assumes nothing.
-use borrow.Author.Rules.{rules}
 use mathlib.Core.Path.{sym, subst}
 use Rattle.model.specs.Denoted.{machine_of}
 use Rattle.reach.specs.Set.{flag_at}

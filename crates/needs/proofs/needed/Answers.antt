@@ -1,9 +1,8 @@
 -- `needs::needed` meets its contract.
 -- Assumes nothing.
-use borrow.Author.Rules.{rules}
 use mathlib.Core.Path.{sym, ◌∙◌}
 use Rattle.model.proofs.Good.{table_good}
-use Rattle.reach.proofs.Told.{told_found, told_refused, found_fits, refused_breaks}
+use Rattle.reach.proofs.Told.{found_fits, refused_breaks}
 use Rattle.needs.proofs.Answering.{lengths_outputs, lengths_list, lengths_next, lengths_all, cleared, known_of, needed_lengths, list_lengths, needed_rules, list_rules, needed_found, list_found}
 use Rattle.needs.proofs.needed.Goals as goal
 

@@ -2,10 +2,9 @@
 -- Assumes nothing.
 use native.Mathlib.Omega.{arith}
 use mathlib.Core.Path.{sym, ◌∙◌}
-use Prim.Native.Nat.{◌-◌}
 use Rattle.needs.proofs.Agreeing.{led_below}
 use Rattle.needs.proofs.Owning.{listing_of, led_own}
-use Rattle.needs.proofs.Refining.{steps, Refining, refining_first, refining_one, refining_most, refining_more, refining_last}
+use Rattle.needs.proofs.Refining.{steps, refining_first, refining_one, refining_most, refining_more, refining_last}
 use Rattle.needs.proofs.refine.Goals as goal
 
 pub own_actions-own-requires : goal.own_actions-own-requires

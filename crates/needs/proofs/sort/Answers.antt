@@ -1,11 +1,9 @@
 -- `needs::sort` meets its contract. The loop's invariant: the boxes passed are sorted out.
 -- Assumes nothing.
 use native.Mathlib.Omega.{arith}
-use mathlib.Core.Path.{◌≡◌, refl, sym, ◌∙◌}
-use Prim.Native.Nat.{◌≤◌, ◌-◌}
-use Rattle.needs.specs.Again.{Befores}
+use mathlib.Core.Path.{refl, sym, ◌∙◌}
 use Rattle.needs.proofs.Refining.{steps}
-use Rattle.needs.proofs.Sorting.{Sorting, sorting_none, box_small, owners_in, sorting_more, sorting_silent, sorting_all}
+use Rattle.needs.proofs.Sorting.{sorting_none, box_small, owners_in, sorting_more, sorting_silent, sorting_all}
 use Rattle.needs.proofs.sort.Goals as goal
 
 pub befores-before-requires : goal.befores-before-requires

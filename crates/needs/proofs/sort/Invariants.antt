@@ -1,11 +1,9 @@
 -- `needs::sort` meets its contract. The loop's invariant: the boxes passed are sorted out.
 -- Assumes nothing.
-use native.Mathlib.Omega.{arith}
-use mathlib.Core.Path.{◌≡◌, refl, sym, ◌∙◌}
+use mathlib.Core.Path.{◌≡◌}
 use Prim.Native.Nat.{◌≤◌, ◌-◌}
 use Rattle.needs.specs.Again.{Befores}
-use Rattle.needs.proofs.Refining.{steps}
-use Rattle.needs.proofs.Sorting.{Sorting, sorting_none, box_small, owners_in, sorting_more, sorting_silent, sorting_all}
+use Rattle.needs.proofs.Sorting.{Sorting}
 use Rattle.needs.proofs.sort.Given as goal
 
 abbrev pub invariant-boxes : goal.invariant-boxes

@@ -1,14 +1,9 @@
 -- `purge::all_interferers` meets its contract: the sets below u are written. Assumes nothing.
-use mathlib.Core.Path.{◌≡◌, refl}
-use Prim.Native.Nat.{◌+◌, ◌-◌, ◌*◌, ◌≤◌}
+use mathlib.Core.Path.{refl}
 use native.Mathlib.Omega.{arith}
-use lib.ListN.{length, get_or, length-set}
-use borrow.Author.Rules.{rules}
-use Rattle.laws.specs.Filled.{Filled}
+use lib.ListN.{length-set}
 use Rattle.laws.proofs.Filled.{filled_none, filled_more, filled_all}
-use Rattle.model.specs.Arrows.{leads}
 use Rattle.model.specs.Limits.{BOXES}
-use Rattle.laws.specs.Sets.{pack}
 use Rattle.purge.proofs.all_interferers.Goals as goal
 
 pub boxes-init : goal.boxes-init

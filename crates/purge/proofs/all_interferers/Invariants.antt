@@ -1,11 +1,8 @@
 -- `purge::all_interferers` meets its contract: the sets below u are written. Assumes nothing.
-use mathlib.Core.Path.{◌≡◌, refl}
-use Prim.Native.Nat.{◌+◌, ◌-◌, ◌*◌, ◌≤◌}
-use native.Mathlib.Omega.{arith}
-use lib.ListN.{length, get_or, length-set}
-use borrow.Author.Rules.{rules}
+use mathlib.Core.Path.{◌≡◌}
+use Prim.Native.Nat.{◌-◌, ◌≤◌}
+use lib.ListN.{length}
 use Rattle.laws.specs.Filled.{Filled}
-use Rattle.laws.proofs.Filled.{filled_none, filled_more, filled_all}
 use Rattle.model.specs.Arrows.{leads}
 use Rattle.model.specs.Limits.{BOXES}
 use Rattle.laws.specs.Sets.{pack}

@@ -1,9 +1,6 @@
 -- `purge::gather` meets its contract. Assumes nothing.
 use Prim.Native.Nat.{◌-◌}
-use native.Mathlib.Omega.{arith}
-use lib.ListN.{length-set}
-use borrow.Author.Rules.{rules}
-use Rattle.purge.proofs.Gathered.{Gathered, gathered_start, gathered_length, gathered_below, gathered_kept, gathered_dropped, gathered_end}
+use Rattle.purge.proofs.Gathered.{Gathered}
 use Rattle.purge.proofs.gather.Given as goal
 
 abbrev pub invariant-actions : goal.invariant-actions

@@ -1,14 +1,9 @@
 -- `purge::interferers` meets its contract: the set holds the boxes from v on. Assumes nothing.
-use mathlib.Core.Path.{◌≡◌, ap, ◌∙◌}
-use mathlib.Core.Bool.{cond}
-use Prim.Native.Nat.{◌+◌, ◌-◌, ◌*◌, ◌≤◌}
-use native.Mathlib.Omega.{arith}
-use lib.ListN.{get_or}
-use borrow.Author.Rules.{rules}
+use mathlib.Core.Path.{◌≡◌}
+use Prim.Native.Nat.{◌-◌, ◌≤◌}
 use Rattle.model.specs.Arrows.{leads}
 use Rattle.model.specs.Limits.{BOXES}
 use Rattle.laws.specs.Sets.{pack}
-use Rattle.purge.proofs.Sets.{pack_fits, pack_more, pack_end}
 use Rattle.purge.proofs.interferers.Given as goal
 
 abbrev pub invariant-boxes : goal.invariant-boxes

@@ -1,5 +1,4 @@
 -- `purge::keep` meets its contract. Assumes nothing.
-use borrow.Author.Rules.{rules}
 use Rattle.purge.proofs.Written.{box_small, kept_written}
 use Rattle.purge.proofs.keep.Goals as goal
 

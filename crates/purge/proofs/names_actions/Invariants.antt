@@ -2,10 +2,7 @@
 use Prim.Native.Nat.{◌≤◌, ◌-◌}
 use lib.Dec.{ltb}
 use lib.ListN.{get_or}
-use borrow.Author.Rules.{rules}
 use Rattle.laws.specs.Range.{Held}
-use Rattle.laws.proofs.Loops.{each}
-use Rattle.purge.specs.Purged.{names_actions}
 use Rattle.purge.proofs.names_actions.Given as goal
 
 abbrev pub invariant-run : goal.invariant-run

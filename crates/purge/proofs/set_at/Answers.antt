@@ -1,4 +1,3 @@
-
 use borrow.Author.Rules.{rules}
 use Rattle.laws.proofs.Cells.{beyond}
 use Rattle.purge.proofs.set_at.Goals as goal

@@ -1,14 +1,10 @@
 -- `reach::count` meets its contract. The loop's invariant: n is the number of flags passed.
 -- Assumes nothing.
-use borrow.Author.Rules.{rules}
-use native.Mathlib.Omega.{arith}
-use mathlib.Core.Path.{◌≡◌, ◌∙◌, ap}
+use mathlib.Core.Path.{◌≡◌}
 use Prim.Native.Nat.{◌≤◌, ◌-◌}
 use Rattle.laws.specs.Range.{count}
-use Rattle.laws.proofs.Count.{count_le}
 use Rattle.model.specs.Limits.{STATES}
 use Rattle.reach.specs.Set.{has}
-use Rattle.laws.proofs.Tables.{count_begun, count_yes, count_no}
 use Rattle.reach.proofs.count.Given as goal
 
 abbrev pub invariant-states : goal.invariant-states

@@ -1,12 +1,9 @@
 -- `reach::explore` meets its contract. The loop's invariant: what is entered is reachable, and what is looked at leads to what is entered.
 -- Assumes nothing.
-use borrow.Author.Rules.{rules}
-use native.Mathlib.Omega.{arith}
 use Prim.Native.Nat.{◌-◌}
 use Rattle.model.specs.Limits.{STATES}
 use Rattle.model.specs.Good.{GoodTable}
 use Rattle.reach.specs.Explored.{Explored}
-use Rattle.reach.proofs.Worklist.{entered_most, explored_start, complete}
 use Rattle.reach.proofs.explore.Given as goal
 
 abbrev pub invariant-work : goal.invariant-work

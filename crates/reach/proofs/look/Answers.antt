@@ -1,11 +1,8 @@
 -- `reach::look` meets its contract. The loop's invariant: the states that the actions passed lead to are entered.
 -- Assumes nothing.
-use borrow.Author.Rules.{rules}
 use native.Mathlib.Omega.{arith}
-use mathlib.Core.Path.{◌≡◌, refl}
-use Prim.Native.Nat.{◌≤◌, ◌-◌}
-use Rattle.model.specs.Good.{GoodTable}
-use Rattle.reach.proofs.Worklist.{Looking, entered_most, looking, next_cell, next_row, next_small, room, known, entered, looked_at}
+use mathlib.Core.Path.{refl}
+use Rattle.reach.proofs.Worklist.{entered_most, looking, next_cell, next_row, next_small, room, known, entered, looked_at}
 use Rattle.reach.proofs.look.Goals as goal
 
 pub offset_bounds-work-done : goal.offset_bounds-work-done

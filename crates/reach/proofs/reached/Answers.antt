@@ -1,6 +1,5 @@
 -- `reach::reached` meets its contract.
 -- Assumes nothing.
-use borrow.Author.Rules.{rules}
 use mathlib.Core.Path.{sym, ◌∙◌}
 use Rattle.model.proofs.Good.{table_good}
 use Rattle.reach.proofs.Answered.{outcome_length, outcome_rules, outcome_found, flags_length, flags_rules, flags_found}

@@ -1,8 +1,7 @@
 -- `register::lay` meets its contract. Assumes nothing.
-use Prim.Native.Nat.{◌-◌}
 use native.Mathlib.Omega.{arith}
 use borrow.Author.Rules.{rules}
-use Rattle.laws.proofs.Copied.{Copied, copied_none, copied_more, copied_length, copied_all}
+use Rattle.laws.proofs.Copied.{copied_none, copied_more, copied_length, copied_all}
 use Rattle.register.proofs.lay.Goals as goal
 
 pub entries-init : goal.entries-init

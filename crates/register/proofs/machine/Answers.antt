@@ -1,5 +1,4 @@
 -- `register::machine` meets its contract: its sizes and owners are those that the definition lists. Assumes nothing.
-use borrow.Author.Rules.{rules}
 use mathlib.Core.Path.{ap, ◌∙◌}
 use Rattle.model.specs.Made.{machine_from}
 use Rattle.register.proofs.machine.Goals as goal

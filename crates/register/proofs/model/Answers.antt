@@ -1,5 +1,4 @@
 -- `register::model` meets its contract: what is stored is what the definition lists. Assumes nothing.
-use borrow.Author.Rules.{rules}
 use mathlib.Core.Path.{ap, ◌∙◌}
 use Rattle.model.specs.Made.{model_from}
 use Rattle.laws.specs.Sets.{including}

@@ -1,5 +1,4 @@
 -- `register::next` meets its contract: the constant is what the definition lists. Assumes nothing.
-use borrow.Author.Rules.{rules}
 use Rattle.register.specs.Tables.{by_state, column}
 use Rattle.register.proofs.next.Goals as goal
 

@@ -1,5 +1,4 @@
 -- `register::views` meets its contract: the constant is what the definition lists. Assumes nothing.
-use borrow.Author.Rules.{rules}
 use Rattle.register.specs.Tables.{by_box}
 use Rattle.register.proofs.views.Goals as goal
 

@@ -1,6 +1,5 @@
 -- `sheet::answered` meets its contract. Assumes nothing.
 use Rattle.text.proofs.Parts.{line_next, no_lines}
-use borrow.Author.Rules.{rules}
 use Rattle.sheet.proofs.answered.Goals as goal
 
 pub returns-then-at-text : goal.returns-then-at-text

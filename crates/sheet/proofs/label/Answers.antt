@@ -2,7 +2,6 @@
 use mathlib.Core.Path.{refl, sym, ◌∙◌}
 use native.Mathlib.Omega.{arith}
 use Rattle.sheet.proofs.LabelPlace.{found_within}
-use borrow.Author.Rules.{rules}
 use Rattle.sheet.proofs.label.Goals as goal
 
 pub slice_bounds-result-count : goal.slice_bounds-result-count

@@ -4,7 +4,6 @@ use lib.ListN.{length}
 use Rattle.model.specs.Limits.{NEXT_ENTRIES, OUTPUT_ENTRIES}
 use Rattle.sheet.proofs.First.{zeros_length}
 use Rattle.sheet.proofs.Outcome.{wrong_next, wrong_outputs, wrong_views, a_refusal, a_model}
-use borrow.Author.Rules.{rules}
 use Rattle.sheet.proofs.read.Goals as goal
 
 pub returns-then-next-ne-NEXT_ENTRIES : goal.returns-then-next-ne-NEXT_ENTRIES

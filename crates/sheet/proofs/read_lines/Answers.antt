@@ -1,7 +1,6 @@
 -- `sheet::read_lines` meets its contract. Assumes nothing.
 use mathlib.Core.Path.{sym, ◌∙◌}
 use Rattle.sheet.proofs.First.{first_bad, first_sizes, first_few, first_good}
-use borrow.Author.Rules.{rules}
 use Rattle.sheet.proofs.read_lines.Goals as goal
 
 pub read_body-body-requires : goal.read_body-body-requires

@@ -6,7 +6,6 @@ use lib.ListN.{length}
 use Rattle.model.specs.Limits.{NEXT_ENTRIES, OUTPUT_ENTRIES, VIEW_ENTRIES}
 use Rattle.sheet.specs.Reading.{sheet_text}
 use Rattle.sheet.proofs.First.{zeros_length, over_zeros}
-use borrow.Author.Rules.{rules}
 use Rattle.sheet.proofs.read_text.Goals as goal
 
 pub returns-then-n-eq0 : goal.returns-then-n-eq0

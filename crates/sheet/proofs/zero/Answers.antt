@@ -1,10 +1,9 @@
 -- `sheet::zero` meets its contract: the first `i` entries are 0. Assumes nothing.
-use Prim.Native.Nat.{◌≤◌, ◌-◌}
 use mathlib.Core.Path.{◌≡◌, refl, ◌∙◌}
-use mathlib.Core.List.{◌++◌, append-nil}
+use mathlib.Core.List.{append-nil}
 use native.Mathlib.Omega.{arith}
 use borrow.Author.Fill.{fill_more}
-use lib.ListN.{length, drop, replicate, length-set}
+use lib.ListN.{length, length-set}
 use lib.Seq.{drop-length}
 use Rattle.sheet.specs.Reading.{zeros}
 use borrow.Author.Rules.{rules}

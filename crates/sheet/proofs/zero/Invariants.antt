@@ -1,13 +1,8 @@
 -- `sheet::zero` meets its contract: the first `i` entries are 0. Assumes nothing.
 use Prim.Native.Nat.{◌≤◌, ◌-◌}
-use mathlib.Core.Path.{◌≡◌, refl, ◌∙◌}
-use mathlib.Core.List.{◌++◌, append-nil}
-use native.Mathlib.Omega.{arith}
-use borrow.Author.Fill.{fill_more}
-use lib.ListN.{length, drop, replicate, length-set}
-use lib.Seq.{drop-length}
-use Rattle.sheet.specs.Reading.{zeros}
-use borrow.Author.Rules.{rules}
+use mathlib.Core.Path.{◌≡◌}
+use mathlib.Core.List.{◌++◌}
+use lib.ListN.{length, drop, replicate}
 use Rattle.sheet.proofs.zero.Given as goal
 
 abbrev pub invariant-loop-i : goal.invariant-loop-i

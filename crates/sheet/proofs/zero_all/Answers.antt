@@ -1,7 +1,6 @@
 -- `sheet::zero_all` meets its contract. Assumes nothing.
 use mathlib.Core.Path.{ap, ◌∙◌}
 use Rattle.sheet.specs.Reading.{zeros}
-use borrow.Author.Rules.{rules}
 use Rattle.sheet.proofs.zero_all.Goals as goal
 
 pub returns : goal.returns

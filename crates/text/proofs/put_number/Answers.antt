@@ -7,14 +7,14 @@ use Rattle.text.proofs.put_number.Invariants.{At}
 use Rattle.text.proofs.put_number.Goals as goal
 
 -- what stands from a place on, after a byte is set there
-drop-set : (ds : List ℕ) (i v : ℕ) → i < length ds → drop i (set ds i v) ≡ v ∷ drop (suc i) ds
-drop-set ds i v h = rw (set_split ds i v h, drop_at (take i ds) (v ∷ drop (suc i) ds) i (length-take-le i ds (omega arith)))
+drop_set : (ds : List ℕ) (i v : ℕ) → i < length ds → drop i (set ds i v) ≡ v ∷ drop (suc i) ds
+drop_set ds i v h = rw (set_split ds i v h, drop_at (take i ds) (v ∷ drop (suc i) ds) i (length-take-le i ds (omega arith)))
 
 module _ {value : ℕ} {ds : List ℕ} {left i : ℕ} (p : At value ds left i) where
   last : left < 10 → take (10 - i) (drop i (set ds i (48 + left))) ≡ decimal value
   last h =
       take_all (10 - i) _ (rw (length-drop, length-set) (omega (arith, p.room)))
-      ∙ drop-set ds i (48 + left) (omega (arith, p.room, p.within))
+      ∙ drop_set ds i (48 + left) (omega (arith, p.room, p.within))
       ∙ (rw (digits_one i left h) at p.rest)
 
   module _ (h : 10 ≤ left) where
@@ -32,7 +32,7 @@ module _ {value : ℕ} {ds : List ℕ} {left i : ℕ} (p : At value ds left i) w
           within = omega (arith, p.within);
           room = length-set ds i (48 + left % 10) ∙ p.room;
           short = rw e (omega (arith, rw (pow-suc 10 i) at p.short));
-          rest = rw (e, drop-set ds i (48 + left % 10) (omega (arith, p.room, p.within))) (sym (simp append_assoc) ∙ (rw (digits_more i left h) at p.rest));
+          rest = rw (e, drop_set ds i (48 + left % 10) (omega (arith, p.room, p.within))) (sym (simp append_assoc) ∙ (rw (digits_more i left h) at p.rest));
         }
 
 pub loop-left-init : goal.loop-left-init

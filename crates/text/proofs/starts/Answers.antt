@@ -6,8 +6,8 @@ use Rattle.text.proofs.Parts.{at, field_here, field_past, field_over, first_fiel
 use Rattle.text.proofs.starts.Invariants.{At}
 use Rattle.text.proofs.starts.Goals as goal
 
-by-tab {ℓ} : {X : Type ℓ} (x : ℕ) → (x ≡ 9 → X) → ((x ≡ 9 → ⊥) → X) → X
-by-tab {X = X} x f g = go (eqb x 9) refl
+by_tab {ℓ} : {X : Type ℓ} (x : ℕ) → (x ≡ 9 → X) → ((x ≡ 9 → ⊥) → X) → X
+by_tab {X = X} x f g = go (eqb x 9) refl
   where
     go : (t : Bool) → eqb x 9 ≡ t → X
     go true e = f (eqb-true x 9 e)
@@ -30,7 +30,7 @@ module _ {l w : List ℕ} where
       unfolding same
       other n =
           let r = p.room in
-          by-tab (get_or l i 0) tab (λ k. sym (rw (field_past l i (omega arith) k, at w i g) (simp (ne_eqb _ _ n))) ∙ p.rest)
+          by_tab (get_or l i 0) tab (λ k. sym (rw (field_past l i (omega arith) k, at w i g) (simp (ne_eqb _ _ n))) ∙ p.rest)
 
       past : get_or l i 0 ≡ get_or w i 0 → (get_or l i 0 ≡ 9 → ⊥) → At l w (i + 1)
       unfolding same
@@ -42,7 +42,7 @@ module _ {l w : List ℕ} where
       ended : i < length l → eqb (get_or l i 0) 9 ≡ same (get_or (fields l) 0 []) w
       unfolding same
       ended g =
-          by-tab (get_or l i 0)
+          by_tab (get_or l i 0)
           (λ e. eq-eqb _ _ e ∙ sym (rw (field_here l i g e, drop_of_length-le w h)) ∙ p.rest)
           (λ k. ne_eqb _ _ k ∙ sym (rw (field_past l i g k, drop_of_length-le w h)) ∙ p.rest)
 

@@ -1,6 +1,5 @@
 -- `views::alike` meets its contract. Assumes nothing.
 use Rattle.views.specs.Tables.{alike_in}
-use borrow.Author.Rules.{rules}
 use Rattle.views.proofs.alike.Goals as goal
 
 pub returns : goal.returns

@@ -3,7 +3,6 @@ use native.Mathlib.Nat.{le_refl}
 use native.Mathlib.Omega.{arith}
 use Rattle.laws.proofs.Cells.{row}
 use Rattle.model.specs.Limits.{STATES}
-use borrow.Author.Rules.{rules}
 use Rattle.views.proofs.entry.Goals as goal
 
 pub overflow_mul-row : goal.overflow_mul-row

@@ -5,9 +5,7 @@ use Rattle.views.proofs.Calm.{nexts}
 use Rattle.noninterference.specs.Judged.{judged}
 use Rattle.views.specs.Judgement.{first_broken}
 use Rattle.views.proofs.Flags.{first_decides, first_passes}
-use Rattle.views.proofs.Told.{told_accepted, told_other}
 use Rattle.views.proofs.Searches.{output_free, respect_free, step_free}
-use borrow.Author.Rules.{rules}
 use Rattle.views.proofs.first_broken.Goals as goal
 
 pub alones-alones-requires : goal.alones-alones-requires

@@ -1,18 +1,14 @@
 -- `views::first_output` meets its contract. Each loop's invariant: its number is at most the range's end, nothing is found yet, and the search that the loop makes gives nothing below its number.
 -- Assumes nothing.
 -- Here `c3` is the place three before `c`.
-use mathlib.Core.Path.{◌≡◌, refl}
+use mathlib.Core.Path.{refl}
 use mathlib.Core.List.{[]}
-use Prim.Native.Nat.{◌≤◌, ◌<◌, ◌-◌}
 use native.Mathlib.Omega.{arith}
-use borrow.Author.Rules.{rules}
-use Rattle.laws.specs.Search.{Passed}
 use Rattle.laws.proofs.Tests.{told}
 use Rattle.laws.proofs.Search.{sweep, passed_more, first_of_none, first_of_hit, when_rest, when_no, when_hit, pair_hit, pairs_passed}
-use Rattle.views.specs.declared.Judgement.TheVariants.{Accepted}
 use Rattle.views.proofs.Flags.{owner_in, owner_small, answer_none, answer_output}
 use Rattle.views.proofs.Calm.{lows_low, quiet_none}
-use Rattle.views.proofs.Searches.{output_at, output_from, output_of, output_is}
+use Rattle.views.proofs.Searches.{output_is}
 use Rattle.views.proofs.first_output.Goals as goal
 
 pub actions-init : goal.actions-init
@@ -31,13 +27,12 @@ pub actions-smaller-then-silent : goal.actions-smaller-then-silent
 actions-smaller-then-silent c = omega arith
 
 pub actions-preserved-then-silent : goal.actions-preserved-then-silent
-actions-preserved-then-silent c =
-    (
-      omega arith,
-      c.actions.invariant.1,
-      passed_more _ _ c.actions.invariant.2 (quiet_none _ c.requires.good_machine c.requires.lows c.actions-test.true
-          c.owner-o.ensures (told _ _ c.silent.ensures c.if-silent.true)),
-    )
+actions-preserved-then-silent c = (
+  omega arith,
+  c.actions.invariant.1,
+  passed_more _ _ c.actions.invariant.2 (quiet_none _ c.requires.good_machine c.requires.lows c.actions-test.true
+      c.owner-o.ensures (told _ _ c.silent.ensures c.if-silent.true)),
+)
 
 pub firsts-init : goal.firsts-init
 firsts-init c = search sweep
@@ -67,14 +62,13 @@ pub seconds-smaller : goal.seconds-smaller
 seconds-smaller c = omega arith
 
 pub seconds-preserved : goal.seconds-preserved
-seconds-preserved c =
-    (
-      omega arith,
-      omega arith,
-      c.seconds.invariant.2,
-      passed_more _ _ c.seconds.invariant.3 (when_rest _ (when_rest _ (when_no _ (told _ _ (rw
-          c.owner-o.ensures at c.leaks.ensures) c.if-leaks.false)))),
-    )
+seconds-preserved c = (
+  omega arith,
+  omega arith,
+  c.seconds.invariant.2,
+  passed_more _ _ c.seconds.invariant.3 (when_rest _ (when_rest _ (when_no _ (told _ _ (rw
+      c.owner-o.ensures at c.leaks.ensures) c.if-leaks.false)))),
+)
 
 pub overflow_step-s : goal.overflow_step-s
 overflow_step-s c = omega arith

@@ -1,18 +1,11 @@
 -- `views::first_output` meets its contract. Each loop's invariant: its number is at most the range's end, nothing is found yet, and the search that the loop makes gives nothing below its number.
 -- Assumes nothing.
 -- Here `c3` is the place three before `c`.
-use mathlib.Core.Path.{◌≡◌, refl}
-use mathlib.Core.List.{[]}
+use mathlib.Core.Path.{◌≡◌}
 use Prim.Native.Nat.{◌≤◌, ◌<◌, ◌-◌}
-use native.Mathlib.Omega.{arith}
-use borrow.Author.Rules.{rules}
 use Rattle.laws.specs.Search.{Passed}
-use Rattle.laws.proofs.Tests.{told}
-use Rattle.laws.proofs.Search.{sweep, passed_more, first_of_none, first_of_hit, when_rest, when_no, when_hit, pair_hit, pairs_passed}
 use Rattle.views.specs.declared.Judgement.TheVariants.{Accepted}
-use Rattle.views.proofs.Flags.{owner_in, owner_small, answer_none, answer_output}
-use Rattle.views.proofs.Calm.{lows_low, quiet_none}
-use Rattle.views.proofs.Searches.{output_at, output_from, output_of, output_is}
+use Rattle.views.proofs.Searches.{output_at, output_from, output_of}
 use Rattle.views.proofs.first_output.Given as goal
 
 abbrev pub invariant-seconds : goal.invariant-seconds

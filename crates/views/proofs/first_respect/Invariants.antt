@@ -1,20 +1,12 @@
 -- `views::first_respect` meets its contract. Each loop's invariant: its number is at most the range's end, nothing is found yet, and the search that the loop makes gives nothing below its number; what is noted holds.
 -- Assumes nothing.
 -- Here `c3` is the place three before `c`.
-use mathlib.Core.Path.{◌≡◌, refl, sym}
-use mathlib.Core.List.{[]}
+use mathlib.Core.Path.{◌≡◌}
 use Prim.Native.Nat.{◌≤◌, ◌-◌}
-use native.Mathlib.Omega.{arith}
-use native.Mathlib.Nat.{lt_of_lt_of_le}
-use borrow.Author.Rules.{rules}
 use Rattle.laws.specs.Search.{Passed}
-use Rattle.laws.proofs.Tests.{told, not_yes, not_no}
-use Rattle.laws.proofs.Search.{passed_none, passed_more, first_of_none, first_of_hit, when_rest, when_no, when_hit}
 use Rattle.views.specs.declared.Judgement.TheVariants.{Accepted}
 use Rattle.views.specs.Guards.{Kept}
-use Rattle.views.proofs.Calm.{nexts, keeps_still}
-use Rattle.views.proofs.Flags.{owner_small, answer_none, answer_respect}
-use Rattle.views.proofs.Searches.{respect_at, respect_from, respect_of, respect_is}
+use Rattle.views.proofs.Searches.{respect_at, respect_from, respect_of}
 use Rattle.views.proofs.first_respect.Given as goal
 
 abbrev pub invariant-states : goal.invariant-states

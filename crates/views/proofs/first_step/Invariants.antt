@@ -1,21 +1,13 @@
 -- `views::first_step` meets its contract. Each loop's invariant: its number is at most the range's end, nothing is found yet, and the search that the loop makes gives nothing below its number.
 -- Assumes nothing.
 -- Here `c3` is the place three before `c`.
-use mathlib.Core.Path.{◌≡◌, refl}
-use mathlib.Core.List.{[]}
-use Prim.Native.Nat.{ℕ, ◌≤◌, ◌<◌, ◌-◌}
-use native.Mathlib.Omega.{arith}
-use native.Mathlib.Nat.{lt_of_lt_of_le}
-use borrow.Author.Rules.{rules}
+use mathlib.Core.Path.{◌≡◌}
+use Prim.Native.Nat.{◌≤◌, ◌<◌, ◌-◌}
 use Rattle.laws.specs.Search.{Passed}
-use Rattle.laws.proofs.Tests.{told}
-use Rattle.laws.proofs.Search.{sweep, passed_more, first_of_none, first_of_hit, when_rest, when_no, passed_none, when_hit, pair_hit, pairs_passed}
 use Rattle.views.specs.declared.Judgement.TheVariants.{Accepted}
-use lib.ListN.{length, length-replicate}
+use lib.ListN.{length}
 use Rattle.views.specs.Guards.{SPOTS}
-use Rattle.views.proofs.Flags.{owner_small, answer_none, answer_step}
-use Rattle.views.proofs.Calm.{nexts, lows_low, alone_none, calm_none}
-use Rattle.views.proofs.Searches.{step_at, step_from, step_under, step_of, step_is}
+use Rattle.views.proofs.Searches.{step_at, step_from, step_under, step_of}
 use Rattle.views.proofs.first_step.Given as goal
 
 abbrev pub invariant-seconds : goal.invariant-seconds

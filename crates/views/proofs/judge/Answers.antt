@@ -5,7 +5,6 @@ use Rattle.laws.proofs.Tests.{both_of, both_no, choose_yes, choose_no, told}
 use Rattle.model.proofs.Good.{model_table_good}
 use Rattle.laws.proofs.Loops.{both_not}
 use Rattle.views.specs.Judgement.{lengths_fit, judgement_of}
-use borrow.Author.Rules.{rules}
 use Rattle.views.proofs.judge.Goals as goal
 
 pub returns-then-next-ne-NEXT_ENTRIES : goal.returns-then-next-ne-NEXT_ENTRIES

@@ -2,7 +2,6 @@
 use mathlib.Core.Path.{◌∙◌}
 use Rattle.laws.proofs.Tests.{told, without_not, without_on}
 use Rattle.views.specs.Tables.{leaks_in}
-use borrow.Author.Rules.{rules}
 use Rattle.views.proofs.leaks.Goals as goal
 
 pub returns-then-alike : goal.returns-then-alike

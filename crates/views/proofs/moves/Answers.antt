@@ -1,7 +1,6 @@
 -- `views::moves` meets its contract. Assumes nothing.
 use Rattle.laws.proofs.Tests.{told, not_yes, not_no}
 use Rattle.views.specs.Tables.{moves_in}
-use borrow.Author.Rules.{rules}
 use Rattle.views.proofs.moves.Goals as goal
 
 pub returns-then-alike : goal.returns-then-alike

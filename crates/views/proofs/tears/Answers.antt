@@ -4,7 +4,6 @@ use mathlib.Core.Path.{sym}
 use Rattle.laws.proofs.Tests.{told, both_of, both_no, without_of, without_not, without_met}
 use Rattle.views.specs.Tables.{tears_in}
 use Rattle.laws.proofs.Loops.{both_not}
-use borrow.Author.Rules.{rules}
 use Rattle.views.proofs.tears.Goals as goal
 
 pub returns-then-alike-3 : goal.returns-then-alike-3

@@ -1,6 +1,5 @@
 -- `zarpalume::put_lines` meets its contract. Assumes nothing.
 use native.Mathlib.Omega.{arith}
-use borrow.Author.Rules.{rules}
 use Rattle.text.proofs.Buffer.{lent, same_as, written_length}
 use Rattle.zarpalume.specs.Lines.{views_line}
 use Rattle.zarpalume.proofs.Joined.{joined}

@@ -1,7 +1,6 @@
 -- `zarpalume::put_refusal` meets its contract. Assumes nothing.
 use mathlib.Core.Path.{sym, ◌∙◌, ap, subst}
 use native.Mathlib.Omega.{arith}
-use borrow.Author.Rules.{rules}
 use Rattle.text.specs.Number.{decimal}
 use Rattle.text.proofs.Buffer.{same_as}
 use Rattle.zarpalume.specs.Words as words

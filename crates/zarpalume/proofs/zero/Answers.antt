@@ -1,8 +1,7 @@
 -- `zarpalume::zero` meets its contract. Assumes nothing.
-use Prim.Native.Nat.{◌-◌}
 use native.Mathlib.Omega.{arith}
 use borrow.Author.Rules.{rules}
-use Rattle.zarpalume.proofs.Writing.{Zeroing, zeroing_none, zeroing_more, zeroing_length, zeroing_all}
+use Rattle.zarpalume.proofs.Writing.{zeroing_none, zeroing_more, zeroing_length, zeroing_all}
 use Rattle.zarpalume.proofs.zero.Goals as goal
 
 pub bytes-init : goal.bytes-init

@@ -1,8 +1,6 @@
 -- `zarpalume::zero` meets its contract. Assumes nothing.
 use Prim.Native.Nat.{◌-◌}
-use native.Mathlib.Omega.{arith}
-use borrow.Author.Rules.{rules}
-use Rattle.zarpalume.proofs.Writing.{Zeroing, zeroing_none, zeroing_more, zeroing_length, zeroing_all}
+use Rattle.zarpalume.proofs.Writing.{Zeroing}
 use Rattle.zarpalume.proofs.zero.Given as goal
 
 abbrev pub invariant-bytes : goal.invariant-bytes

@@ -1,6 +1,5 @@
 -- `drive::put::arrows` is safe and ends. Assumes nothing.
 use Prim.Native.Nat.{◌-◌}
-use borrow.Author.Rules.{rules}
 use Rattle.model.specs.Limits.{ARROWS}
 use Rattle.drive.proofs.put.arrows.Given as goal
 

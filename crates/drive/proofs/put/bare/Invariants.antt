@@ -2,7 +2,6 @@
 use mathlib.Core.Path.{◌≡◌}
 use Prim.Native.Nat.{◌-◌}
 use lib.ListN.{length}
-use borrow.Author.Rules.{rules}
 use Rattle.drive.proofs.put.bare.Given as goal
 
 abbrev pub invariant-bytes : goal.invariant-bytes

@@ -1,6 +1,5 @@
 -- `drive::put::flags` is safe and ends. Assumes nothing.
 use Prim.Native.Nat.{◌-◌}
-use borrow.Author.Rules.{rules}
 use Rattle.model.specs.Limits.{STATES}
 use Rattle.drive.proofs.put.flags.Given as goal
 

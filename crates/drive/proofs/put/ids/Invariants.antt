@@ -1,6 +1,5 @@
 -- `drive::put::ids` is safe and ends. Assumes nothing.
 use Prim.Native.Nat.{◌-◌}
-use borrow.Author.Rules.{rules}
 use Rattle.model.specs.Limits.{BOXES}
 use Rattle.drive.proofs.put.ids.Given as goal
 

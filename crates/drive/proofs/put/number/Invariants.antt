@@ -1,6 +1,5 @@
 -- `drive::put::number` is safe and ends. Assumes nothing.
 use Prim.Native.Nat.{◌-◌}
-use borrow.Author.Rules.{rules}
 use Rattle.drive.proofs.put.number.Given as goal
 
 abbrev pub invariant-bytes : goal.invariant-bytes

@@ -1,6 +1,5 @@
 -- `drive::put::table` is safe and ends. Assumes nothing.
 use Prim.Native.Nat.{◌-◌}
-use borrow.Author.Rules.{rules}
 use Rattle.drive.proofs.put.table.Given as goal
 
 abbrev pub invariant-entries : goal.invariant-entries

@@ -1,6 +1,5 @@
 -- `drive::put::values` is safe and ends. Assumes nothing.
 use Prim.Native.Nat.{◌-◌}
-use borrow.Author.Rules.{rules}
 use Rattle.drive.proofs.put.values.Given as goal
 
 abbrev pub invariant-values : goal.invariant-values

@@ -1,7 +1,5 @@
 -- `drive::take::arrows` is safe and ends. Assumes nothing.
 use Prim.Native.Nat.{◌-◌}
-use native.Mathlib.Omega.{arith}
-use borrow.Author.Rules.{rules}
 use Rattle.model.specs.Limits.{ARROWS}
 use Rattle.drive.proofs.take.arrows.Given as goal
 

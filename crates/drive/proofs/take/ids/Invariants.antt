@@ -1,6 +1,5 @@
 -- `drive::take::ids` is safe and ends. Assumes nothing.
 use Prim.Native.Nat.{◌-◌}
-use borrow.Author.Rules.{rules}
 use Rattle.model.specs.Limits.{BOXES}
 use Rattle.drive.proofs.take.ids.Given as goal
 

@@ -1,6 +1,5 @@
 -- `drive::take::owners` is safe and ends. Assumes nothing.
 use Prim.Native.Nat.{◌-◌}
-use borrow.Author.Rules.{rules}
 use Rattle.model.specs.Limits.{ACTIONS}
 use Rattle.drive.proofs.take.owners.Given as goal
 

@@ -2,7 +2,6 @@
 use mathlib.Core.Path.{◌≡◌}
 use Prim.Native.Nat.{◌-◌}
 use lib.ListN.{length}
-use borrow.Author.Rules.{rules}
 use Rattle.drive.proofs.take.table.Given as goal
 
 abbrev pub invariant-entries : goal.invariant-entries

@@ -1,8 +1,5 @@
 -- `edits::allowed::entries_good` meets its contract. Assumes nothing.
-use Prim.Native.Nat.{◌≤◌, ◌-◌}
-use Rattle.laws.specs.Range.{Held}
 use Rattle.laws.proofs.Loops.{each}
-use Rattle.edits.specs.Allowed.{good_entry}
 use Rattle.edits.proofs.allowed.entries_good.Goals as goal
 
 pub entries-init : goal.entries-init

@@ -1,7 +1,6 @@
 -- `edits::allowed::entries_good` meets its contract. Assumes nothing.
 use Prim.Native.Nat.{◌≤◌, ◌-◌}
 use Rattle.laws.specs.Range.{Held}
-use Rattle.laws.proofs.Loops.{each}
 use Rattle.edits.specs.Allowed.{good_entry}
 use Rattle.edits.proofs.allowed.entries_good.Given as goal
 

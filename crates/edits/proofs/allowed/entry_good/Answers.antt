@@ -1,11 +1,10 @@
 -- `edits::allowed::entry_good` meets its contract. Assumes nothing.
 use mathlib.Core.Path.{ap}
 use mathlib.Core.Bool.{not}
-use borrow.Author.Tests.{lt-leb, le-leb, not-true, not-false}
+use borrow.Author.Tests.{lt-leb, le-leb}
 use Rattle.laws.proofs.Tests.{chain_no, chain_on, told}
 use Rattle.laws.proofs.Loops.{brings_on, brings_off}
 use Rattle.edits.specs.Allowed.{good_entry}
-use borrow.Author.Rules.{rules}
 use Rattle.edits.proofs.allowed.entry_good.Goals as goal
 
 pub returns-then-not-is_made : goal.returns-then-not-is_made

@@ -1,8 +1,7 @@
 -- `edits::allowed::is_allowed` meets its contract. Assumes nothing.
-use borrow.Author.Tests.{le-leb, lt-leb, not-true, not-false}
+use borrow.Author.Tests.{le-leb, lt-leb}
 use Rattle.laws.proofs.Tests.{chain_no, chain_on, told}
 use Rattle.edits.specs.Allowed.{allowed}
-use borrow.Author.Rules.{rules}
 use Rattle.edits.proofs.allowed.is_allowed.Goals as goal
 
 pub returns-then-count-gt-EDITS : goal.returns-then-count-gt-EDITS

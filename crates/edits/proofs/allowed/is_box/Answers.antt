@@ -3,10 +3,8 @@ use mathlib.Core.Path.{ap}
 use mathlib.Core.Bool.{not}
 use Prim.Native.Nat.{ℕ}
 use lib.Dec.{eqb}
-use borrow.Author.Tests.{not-true, not-false}
 use Rattle.laws.proofs.Tests.{chain_no, chain_on, told}
 use Rattle.edits.proofs.Asked.{as_eqb, as_neb}
-use borrow.Author.Rules.{rules}
 use Rattle.edits.proofs.allowed.is_box.Goals as goal
 
 pub returns-then-place_of-k : goal.returns-then-place_of-k

@@ -2,7 +2,6 @@
 use borrow.Author.Tests.{eq-eqb, ne_eqb}
 use Rattle.laws.proofs.Tests.{choose_yes, choose_no}
 use Rattle.edits.specs.Allowed.{made}
-use borrow.Author.Rules.{rules}
 use Rattle.edits.proofs.allowed.is_made.Goals as goal
 
 pub returns-then-e-eq-ADD : goal.returns-then-e-eq-ADD

@@ -2,9 +2,7 @@
 use mathlib.Core.Path.{ap}
 use Prim.Native.Nat.{ℕ}
 use lib.Dec.{eqb}
-use borrow.Author.Tests.{not-true, not-false}
 use Rattle.laws.proofs.Tests.{chain_no, chain_on, told}
-use borrow.Author.Rules.{rules}
 use Rattle.edits.proofs.allowed.is_row.Goals as goal
 
 pub returns-then-not-within : goal.returns-then-not-within

@@ -3,7 +3,6 @@ use mathlib.Core.Path.{refl, ap}
 use mathlib.Core.Bool.{not}
 use borrow.Author.Tests.{lt-ltb, le-ltb, eq-eqb, ne_eqb}
 use Rattle.laws.proofs.Tests.{chain_no, chain_on}
-use borrow.Author.Rules.{rules}
 use Rattle.edits.proofs.allowed.made_arrow.Goals as goal
 
 pub returns-then-e-ge-BOXES : goal.returns-then-e-ge-BOXES

@@ -1,7 +1,6 @@
 -- `edits::allowed::made_delete` meets its contract. Assumes nothing.
-use borrow.Author.Tests.{lt-ltb, le-ltb, eq-eqb, ne_eqb, not-true, not-false}
+use borrow.Author.Tests.{lt-ltb, le-ltb, eq-eqb, ne_eqb}
 use Rattle.laws.proofs.Tests.{chain_no, chain_on, told}
-use borrow.Author.Rules.{rules}
 use Rattle.edits.proofs.allowed.made_delete.Goals as goal
 
 pub returns-then-p-ge-BOXES : goal.returns-then-p-ge-BOXES

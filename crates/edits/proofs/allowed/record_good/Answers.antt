@@ -2,7 +2,6 @@
 use borrow.Author.Tests.{lt-ltb, le-ltb}
 use Rattle.laws.proofs.Tests.{choose_yes, choose_no}
 use Rattle.edits.specs.Allowed.{good_at}
-use borrow.Author.Rules.{rules}
 use Rattle.edits.proofs.allowed.record_good.Goals as goal
 
 pub returns-then-k-n : goal.returns-then-k-n

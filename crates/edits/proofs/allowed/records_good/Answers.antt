@@ -1,12 +1,6 @@
 -- `edits::allowed::records_good` meets its contract. Assumes nothing.
-use Prim.Native.Nat.{◌≤◌, ◌-◌}
-use Rattle.laws.specs.Range.{Held}
 use Rattle.laws.proofs.Tests.{told}
 use Rattle.laws.proofs.Loops.{each, every_yes, every_no}
-use Rattle.model.specs.Limits.{BOXES}
-use Rattle.edits.specs.History.{past}
-use Rattle.edits.specs.Allowed.{good_at}
-use borrow.Author.Rules.{rules}
 use Rattle.edits.proofs.allowed.records_good.Goals as goal
 
 pub boxes-init : goal.boxes-init

@@ -1,6 +1,5 @@
 -- `edits::bits::bit_of` meets its contract. Assumes nothing.
 use Rattle.laws.proofs.Bits.{bit_is}
-use borrow.Author.Rules.{rules}
 use Rattle.edits.proofs.bits.bit_of.Goals as goal
 
 pub returns : goal.returns

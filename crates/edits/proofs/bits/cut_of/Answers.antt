@@ -1,7 +1,6 @@
 -- `edits::bits::cut_of` meets its contract. Assumes nothing.
 use native.Mathlib.Omega.{arith}
 use Rattle.laws.proofs.Bits.{cut_is, cut_fits, power_pos}
-use borrow.Author.Rules.{rules}
 use Rattle.edits.proofs.bits.cut_of.Goals as goal
 
 pub nonzero_rem-result : goal.nonzero_rem-result

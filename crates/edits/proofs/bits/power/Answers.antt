@@ -3,7 +3,6 @@ use Prim.Native.Nat.{◌^◌}
 use native.Mathlib.Nat.{mod-eq_of_lt, one-mul}
 use native.Mathlib.Omega.{arith}
 use Rattle.laws.proofs.Bits.{power_small}
-use borrow.Author.Rules.{rules}
 use Rattle.edits.proofs.bits.power.Goals as goal
 
 pub returns : goal.returns

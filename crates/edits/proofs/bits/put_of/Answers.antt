@@ -2,7 +2,6 @@
 use native.Mathlib.Nat.{div-le_self}
 use native.Mathlib.Omega.{arith}
 use Rattle.laws.proofs.Bits.{put_is, put_room, power_pos}
-use borrow.Author.Rules.{rules}
 use Rattle.edits.proofs.bits.put_of.Goals as goal
 
 pub nonzero_rem-result : goal.nonzero_rem-result

@@ -1,7 +1,6 @@
 -- `edits::bits::with_bit` meets its contract. Assumes nothing.
 use native.Mathlib.Omega.{arith}
 use Rattle.laws.proofs.Bits.{draw_small}
-use borrow.Author.Rules.{rules}
 use Rattle.edits.proofs.bits.with_bit.Goals as goal
 
 pub overflow_add-result : goal.overflow_add-result

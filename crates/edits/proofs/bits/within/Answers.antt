@@ -4,7 +4,6 @@ use native.Mathlib.Omega.{arith}
 use lib.Dec.{ltb}
 use borrow.Author.Tests.{lt-ltb}
 use Rattle.laws.proofs.Bits.{small_wide}
-use borrow.Author.Rules.{rules}
 use Rattle.edits.proofs.bits.within.Goals as goal
 
 pub returns-then-n-ge32 : goal.returns-then-n-ge32

@@ -1,7 +1,6 @@
 -- `edits::bits::without_bit` meets its contract. Assumes nothing.
 use native.Mathlib.Omega.{arith}
 use Rattle.laws.proofs.Bits.{bit_part}
-use borrow.Author.Rules.{rules}
 use Rattle.edits.proofs.bits.without_bit.Goals as goal
 
 pub overflow_sub-result : goal.overflow_sub-result

@@ -4,7 +4,6 @@ use mathlib.Core.Path.{refl}
 use borrow.Author.Tests.{eq-eqb, ne_eqb}
 use Rattle.laws.proofs.Tests.{choose_yes, choose_no}
 use Rattle.laws.proofs.Bits.{bit_below}
-use borrow.Author.Rules.{rules}
 use Rattle.edits.proofs.boxes.back_at.Goals as goal
 
 pub returns-then-k-p : goal.returns-then-k-p

@@ -1,10 +1,6 @@
 -- `edits::boxes::boxes_of` meets its contract. Assumes nothing.
-use mathlib.Core.Bool.{not}
-use Prim.Native.Nat.{◌≤◌, ◌-◌}
-use Rattle.laws.specs.Range.{Held}
 use Rattle.laws.proofs.Firsts.{seek}
-use Rattle.model.specs.Limits.{BOXES}
-use Rattle.edits.specs.Records.{at, lives, boxes}
+use Rattle.edits.specs.Records.{boxes}
 use Rattle.edits.proofs.boxes.boxes_of.Goals as goal
 
 pub boxes-init : goal.boxes-init

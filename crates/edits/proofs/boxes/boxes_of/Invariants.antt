@@ -2,9 +2,8 @@
 use mathlib.Core.Bool.{not}
 use Prim.Native.Nat.{◌≤◌, ◌-◌}
 use Rattle.laws.specs.Range.{Held}
-use Rattle.laws.proofs.Firsts.{seek}
 use Rattle.model.specs.Limits.{BOXES}
-use Rattle.edits.specs.Records.{at, lives, boxes}
+use Rattle.edits.specs.Records.{at, lives}
 use Rattle.edits.proofs.boxes.boxes_of.Given as goal
 
 abbrev pub invariant-boxes : goal.invariant-boxes

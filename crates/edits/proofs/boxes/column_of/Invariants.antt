@@ -1,13 +1,9 @@
 -- `edits::boxes::column_of` meets its contract. Assumes nothing.
-use mathlib.Core.Path.{◌≡◌, refl, ap, ◌∙◌}
-use Prim.Native.Nat.{ℕ, ◌≤◌, ◌-◌}
-use native.Mathlib.Nat.{add_comm, mul_comm}
-use native.Mathlib.Omega.{arith}
+use mathlib.Core.Path.{◌≡◌}
+use Prim.Native.Nat.{◌≤◌, ◌-◌}
 use Rattle.laws.specs.Bits.{gather}
-use Rattle.laws.proofs.Bits.{bit_below, gather_small, gather_more, power_small}
 use Rattle.model.specs.Limits.{BOXES}
-use Rattle.edits.specs.Records.{at}
-use Rattle.edits.specs.Moved.{arrow_into, column_of}
+use Rattle.edits.specs.Moved.{arrow_into}
 use Rattle.edits.proofs.boxes.column_of.Given as goal
 
 abbrev pub invariant-boxes : goal.invariant-boxes

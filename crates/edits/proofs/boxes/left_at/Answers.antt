@@ -1,5 +1,4 @@
 -- `edits::boxes::left_at` meets its contract. Assumes nothing.
-use borrow.Author.Rules.{rules}
 use Rattle.edits.proofs.boxes.left_at.Goals as goal
 
 pub returns : goal.returns

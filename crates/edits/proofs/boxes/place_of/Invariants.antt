@@ -2,9 +2,8 @@
 use mathlib.Core.Bool.{not}
 use Prim.Native.Nat.{◌≤◌, ◌-◌}
 use Rattle.laws.specs.Range.{Held}
-use Rattle.laws.proofs.Firsts.{seek}
 use Rattle.model.specs.Limits.{BOXES}
-use Rattle.edits.specs.Records.{at, is_with, place}
+use Rattle.edits.specs.Records.{at, is_with}
 use Rattle.edits.proofs.boxes.place_of.Given as goal
 
 abbrev pub invariant-boxes : goal.invariant-boxes

@@ -3,7 +3,6 @@ use mathlib.Core.Path.{sym, ◌∙◌}
 use native.Mathlib.Omega.{arith}
 use lib.ListN.{get_or-eq_default}
 use Rattle.edits.specs.Records.{blank}
-use borrow.Author.Rules.{rules}
 use Rattle.edits.proofs.boxes.record_at.Goals as goal
 
 pub returns : goal.returns

@@ -2,7 +2,6 @@
 use mathlib.Core.Path.{refl}
 use borrow.Author.Tests.{lt-ltb, le-ltb}
 use Rattle.laws.proofs.Tests.{choose_yes, choose_no}
-use borrow.Author.Rules.{rules}
 use Rattle.edits.proofs.boxes.skip_of.Goals as goal
 
 pub returns-then-k-p : goal.returns-then-k-p

@@ -1,15 +1,12 @@
 -- `edits::boxes::with_box` meets its contract. Assumes nothing.
-use mathlib.Core.Path.{◌≡◌, ◌∙◌}
+use mathlib.Core.Path.{◌≡◌}
 use mathlib.Core.List.{◌++◌}
 use Prim.Native.Nat.{◌≤◌, ◌-◌}
-use native.Mathlib.Omega.{arith}
 use lib.ListN.{replicate}
 use Rattle.laws.specs.Range.{tabulate}
-use Rattle.laws.proofs.Grown.{grown_none, grown_more, grown_all}
 use Rattle.model.specs.Limits.{BOXES}
 use Rattle.edits.specs.Records.{blank}
-use Rattle.edits.specs.Moved.{back_at, with_box}
-use borrow.Author.Rules.{rules}
+use Rattle.edits.specs.Moved.{back_at}
 use Rattle.edits.proofs.boxes.with_box.Given as goal
 
 abbrev pub invariant-boxes : goal.invariant-boxes

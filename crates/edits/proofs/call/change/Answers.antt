@@ -2,7 +2,6 @@
 use mathlib.Core.Path.{refl, ◌∙◌}
 use native.Mathlib.Omega.{arith}
 use Rattle.edits.proofs.Called.{few, doable, planned_kept, planned_done}
-use borrow.Author.Rules.{rules}
 use Rattle.edits.proofs.call.change.Goals as goal
 
 pub plan_of-plan-requires : goal.plan_of-plan-requires

@@ -1,7 +1,6 @@
 -- `edits::call::drop_all` meets its contract. Assumes nothing.
 use mathlib.Core.Path.{refl}
 use Rattle.edits.proofs.Called.{dropped}
-use borrow.Author.Rules.{rules}
 use Rattle.edits.proofs.call.drop_all.Goals as goal
 
 pub returns : goal.returns

@@ -1,9 +1,7 @@
 -- `edits::call::edit_list` meets its contract. Assumes nothing.
 use native.Mathlib.Omega.{arith}
-use borrow.Author.Tests.{not-true, not-false}
 use Rattle.laws.proofs.Tests.{told}
 use Rattle.edits.proofs.Called.{edited_long, edited_bad, edited_undo, edited_drop, edited_other}
-use borrow.Author.Rules.{rules}
 use Rattle.edits.proofs.call.edit_list.Goals as goal
 
 pub returns-then-words-ne-EDIT_WORDS : goal.returns-then-words-ne-EDIT_WORDS

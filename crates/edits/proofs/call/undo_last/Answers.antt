@@ -3,7 +3,6 @@ use mathlib.Core.Path.{refl, ◌∙◌}
 use native.Mathlib.Omega.{arith}
 use Rattle.laws.proofs.Tests.{told}
 use Rattle.edits.proofs.Called.{few, undoable, undo_none, undo_kept, undo_done}
-use borrow.Author.Rules.{rules}
 use Rattle.edits.proofs.call.undo_last.Goals as goal
 
 pub returns-then-n-eq0 : goal.returns-then-n-eq0

@@ -4,7 +4,6 @@ use native.Mathlib.Omega.{arith}
 use borrow.Author.Tests.{eq-eqb, ne_eqb}
 use Rattle.laws.proofs.Tests.{choose_yes, choose_no}
 use Rattle.edits.specs.Done.{done}
-use borrow.Author.Rules.{rules}
 use Rattle.edits.proofs.changes.done_of.Goals as goal
 
 pub with_record-requires : goal.with_record-requires

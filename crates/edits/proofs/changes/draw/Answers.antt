@@ -1,5 +1,4 @@
 -- `edits::changes::draw` meets its contract. Assumes nothing.
-use borrow.Author.Rules.{rules}
 use Rattle.edits.proofs.changes.draw.Goals as goal
 
 pub returns : goal.returns

@@ -1,5 +1,4 @@
 -- `edits::changes::erase` meets its contract. Assumes nothing.
-use borrow.Author.Rules.{rules}
 use Rattle.edits.proofs.changes.erase.Goals as goal
 
 pub returns : goal.returns

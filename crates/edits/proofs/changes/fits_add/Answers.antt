@@ -5,7 +5,6 @@ use borrow.Author.Tests.{lt-ltb, le-ltb}
 use Rattle.laws.proofs.Tests.{chain_no, chain_on}
 use Rattle.edits.specs.Records.{boxes}
 use Rattle.edits.proofs.Found.{boxes_most}
-use borrow.Author.Rules.{rules}
 use Rattle.edits.proofs.changes.fits_add.Goals as goal
 
 pub returns-then-n-eq0 : goal.returns-then-n-eq0

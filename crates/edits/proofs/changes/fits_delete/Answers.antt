@@ -1,11 +1,10 @@
 -- `edits::changes::fits_delete` meets its contract. Assumes nothing.
 use mathlib.Core.Path.{◌∙◌}
 use native.Mathlib.Omega.{arith}
-use borrow.Author.Tests.{not-true, not-false, le-leb, lt-leb}
+use borrow.Author.Tests.{le-leb, lt-leb}
 use Rattle.laws.proofs.Tests.{chain_no, chain_on, told}
 use Rattle.laws.proofs.Loops.{read_lt, read_ge}
 use Rattle.edits.specs.Records.{boxes}
-use borrow.Author.Rules.{rules}
 use Rattle.edits.proofs.changes.fits_delete.Goals as goal
 
 pub returns-then-n-ge-BOXES : goal.returns-then-n-ge-BOXES

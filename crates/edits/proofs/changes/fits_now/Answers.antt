@@ -2,7 +2,6 @@
 use borrow.Author.Tests.{eq-eqb, ne_eqb}
 use Rattle.laws.proofs.Tests.{choose_yes, choose_no}
 use Rattle.edits.specs.Fits.{fits}
-use borrow.Author.Rules.{rules}
 use Rattle.edits.proofs.changes.fits_now.Goals as goal
 
 pub returns-then-e-eq-ADD : goal.returns-then-e-eq-ADD

@@ -4,7 +4,6 @@ use Prim.Native.Nat.{ℕ}
 use lib.Dec.{eqb}
 use borrow.Author.Tests.{eq-eqb, ne_eqb}
 use Rattle.laws.proofs.Tests.{chain_no, chain_on}
-use borrow.Author.Rules.{rules}
 use Rattle.edits.proofs.changes.is_alone.Goals as goal
 
 pub returns-then-item-id : goal.returns-then-item-id

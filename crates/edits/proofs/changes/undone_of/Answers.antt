@@ -5,7 +5,6 @@ use borrow.Author.Tests.{eq-eqb, ne_eqb}
 use Rattle.laws.proofs.Tests.{choose_yes, choose_no}
 use Rattle.edits.specs.Done.{undone}
 use Rattle.edits.proofs.Found.{boxes_most}
-use borrow.Author.Rules.{rules}
 use Rattle.edits.proofs.changes.undone_of.Goals as goal
 
 pub overflow_sub-boxes_of : goal.overflow_sub-boxes_of

@@ -1,14 +1,8 @@
 -- `edits::history::deleted_by` meets its contract. Assumes nothing.
-use mathlib.Core.Path.{sym, ap, ◌∙◌}
 use mathlib.Core.Bool.{not}
 use Prim.Native.Nat.{◌≤◌, ◌-◌}
-use native.Mathlib.Omega.{arith}
 use Rattle.laws.specs.Range.{Held}
-use Rattle.laws.proofs.Range.{held_none, held_more}
-use Rattle.laws.proofs.Loops.{some_yes, some_no}
-use Rattle.edits.specs.History.{entry, takes, deleted_by}
-use Rattle.edits.specs.declared.Entry.{Entry}
-use borrow.Author.Rules.{rules}
+use Rattle.edits.specs.History.{entry, takes}
 use Rattle.edits.proofs.history.deleted_by.Given as goal
 
 abbrev pub invariant-entries : goal.invariant-entries

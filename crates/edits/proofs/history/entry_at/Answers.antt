@@ -1,7 +1,6 @@
 -- `edits::history::entry_at` meets its contract. Assumes nothing.
 use mathlib.Core.Path.{refl}
 use Rattle.edits.specs.History.{entry}
-use borrow.Author.Rules.{rules}
 use Rattle.edits.proofs.history.entry_at.Goals as goal
 
 pub returns : goal.returns

@@ -3,7 +3,6 @@ use mathlib.Core.Path.{sym}
 use native.Mathlib.Omega.{arith}
 use lib.ListN.{get_or-eq_default}
 use Rattle.edits.specs.History.{fields}
-use borrow.Author.Rules.{rules}
 use Rattle.edits.proofs.history.field_of.Goals as goal
 
 pub returns : goal.returns

@@ -1,11 +1,7 @@
 -- `edits::history::write_end` meets its contract. The loop's invariant: the words passed are those of the end. Assumes nothing.
-use mathlib.Core.Path.{◌≡◌, refl}
-use Prim.Native.Nat.{◌*◌, ◌-◌, ◌≤◌}
+use mathlib.Core.Path.{refl}
 use native.Mathlib.Omega.{arith}
-use lib.ListN.{length, length-set}
-use Rattle.laws.specs.Filled.{Filled}
-use Rattle.model.specs.Limits.{EDIT_WORDS}
-use Rattle.edits.specs.History.{FIELDS, ending_at}
+use lib.ListN.{length-set}
 use Rattle.edits.proofs.Words.{ending_begun, ending_next, ending_all}
 use Rattle.edits.proofs.history.write_end.Goals as goal
 

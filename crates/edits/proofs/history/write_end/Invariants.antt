@@ -1,12 +1,10 @@
 -- `edits::history::write_end` meets its contract. The loop's invariant: the words passed are those of the end. Assumes nothing.
-use mathlib.Core.Path.{◌≡◌, refl}
+use mathlib.Core.Path.{◌≡◌}
 use Prim.Native.Nat.{◌*◌, ◌-◌, ◌≤◌}
-use native.Mathlib.Omega.{arith}
-use lib.ListN.{length, length-set}
+use lib.ListN.{length}
 use Rattle.laws.specs.Filled.{Filled}
 use Rattle.model.specs.Limits.{EDIT_WORDS}
 use Rattle.edits.specs.History.{FIELDS, ending_at}
-use Rattle.edits.proofs.Words.{ending_begun, ending_next, ending_all}
 use Rattle.edits.proofs.history.write_end.Given as goal
 
 abbrev pub invariant-words : goal.invariant-words

@@ -2,7 +2,6 @@
 use Rattle.laws.proofs.Tests.{told, choose_yes, choose_no}
 use Rattle.laws.proofs.Loops.{read_lt, read_ge}
 use Rattle.edits.proofs.Asked.{as_eqb, as_neb}
-use borrow.Author.Rules.{rules}
 use Rattle.edits.proofs.plans.plan_add.Goals as goal
 
 pub returns-then-place_of-lt-BOXES : goal.returns-then-place_of-lt-BOXES

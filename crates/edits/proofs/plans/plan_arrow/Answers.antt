@@ -2,7 +2,6 @@
 use borrow.Author.Tests.{eq-eqb, ne_eqb}
 use Rattle.laws.proofs.Tests.{choose_yes, choose_no}
 use Rattle.edits.proofs.Asked.{as_eqb, as_neb}
-use borrow.Author.Rules.{rules}
 use Rattle.edits.proofs.plans.plan_arrow.Goals as goal
 
 pub returns-then-i-eq-BOXES : goal.returns-then-i-eq-BOXES

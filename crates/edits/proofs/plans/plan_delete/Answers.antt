@@ -5,7 +5,6 @@ use Rattle.model.specs.Limits.{BOXES}
 use Rattle.laws.proofs.Tests.{choose_yes, choose_no}
 use Rattle.edits.proofs.Asked.{as_eqb, as_neb}
 use Rattle.edits.proofs.Found.{place_most}
-use borrow.Author.Rules.{rules}
 use Rattle.edits.proofs.plans.plan_delete.Goals as goal
 
 pub returns-then-p-ge-BOXES : goal.returns-then-p-ge-BOXES

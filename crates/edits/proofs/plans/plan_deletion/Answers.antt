@@ -1,5 +1,4 @@
 -- `edits::plans::plan_deletion` meets its contract. Assumes nothing.
-use borrow.Author.Rules.{rules}
 use Rattle.edits.proofs.plans.plan_deletion.Goals as goal
 
 pub returns : goal.returns

@@ -2,7 +2,6 @@
 use mathlib.Core.Path.{◌∙◌}
 use native.Mathlib.Omega.{arith}
 use Rattle.edits.proofs.Found.{place_most}
-use borrow.Author.Rules.{rules}
 use Rattle.edits.proofs.plans.plan_ids.Goals as goal
 
 pub plan_arrow-requires : goal.plan_arrow-requires

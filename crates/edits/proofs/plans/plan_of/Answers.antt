@@ -2,7 +2,6 @@
 use mathlib.Core.Path.{sym, ◌∙◌}
 use native.Mathlib.Omega.{arith}
 use Rattle.edits.proofs.Asked.{plan_none, plan_full, plan_make, asked_add, asked_delete, asked_draw, asked_erase}
-use borrow.Author.Rules.{rules}
 use Rattle.edits.proofs.plans.plan_of.Goals as goal
 
 pub returns-then-kind-gt-ERASE : goal.returns-then-kind-gt-ERASE

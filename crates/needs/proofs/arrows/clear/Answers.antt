@@ -1,11 +1,8 @@
 -- `needs::arrows::clear` meets its contract. The loop's invariant: the entries passed are zero.
 -- Assumes nothing.
 use native.Mathlib.Omega.{arith}
-use mathlib.Core.Path.{◌≡◌, refl}
-use mathlib.Core.List.{◌++◌}
-use Prim.Native.Nat.{◌≤◌, ◌-◌}
+use mathlib.Core.Path.{refl}
 use borrow.Author.Fill.{fill_none}
-use lib.ListN.{length, replicate, drop}
 use Rattle.needs.proofs.Listing.{filled_long, filled_more, filled_all}
 use Rattle.needs.proofs.arrows.clear.Goals as goal
 

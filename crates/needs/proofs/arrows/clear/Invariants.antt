@@ -1,12 +1,9 @@
 -- `needs::arrows::clear` meets its contract. The loop's invariant: the entries passed are zero.
 -- Assumes nothing.
-use native.Mathlib.Omega.{arith}
-use mathlib.Core.Path.{◌≡◌, refl}
+use mathlib.Core.Path.{◌≡◌}
 use mathlib.Core.List.{◌++◌}
 use Prim.Native.Nat.{◌≤◌, ◌-◌}
-use borrow.Author.Fill.{fill_none}
 use lib.ListN.{length, replicate, drop}
-use Rattle.needs.proofs.Listing.{filled_long, filled_more, filled_all}
 use Rattle.needs.proofs.arrows.clear.Given as goal
 
 abbrev pub invariant-entries : goal.invariant-entries

@@ -1,10 +1,9 @@
 -- `needs::arrows::mark` meets its contract. The loop's invariant: the boxes whose actions move a state passed are marked.
 -- Assumes nothing.
-use native.Mathlib.Omega.{arith}
 use Prim.Native.Nat.{◌≤◌, ◌-◌}
 use Rattle.reach.specs.Set.{flag_at}
 use Rattle.needs.specs.Tables.{step_in, entry}
-use Rattle.needs.proofs.Marking.{SourcesTo, sources_none, sources_skip, sources_more, sources_all}
+use Rattle.needs.proofs.Marking.{SourcesTo}
 use Rattle.needs.proofs.arrows.mark.Given as goal
 
 abbrev pub invariant-states : goal.invariant-states

@@ -1,11 +1,8 @@
 -- `needs::arrows::mark_state` meets its contract. The loop's invariant: the boxes of the actions passed are marked.
 -- Assumes nothing.
-use borrow.Author.Rules.{rules}
-use native.Mathlib.Omega.{arith}
-use Prim.Native.Nat.{◌≤◌, ◌<◌, ◌-◌}
-use Rattle.model.specs.Limits.{BOXES}
+use Prim.Native.Nat.{◌≤◌, ◌-◌}
 use Rattle.needs.specs.Tables.{step_in, entry}
-use Rattle.needs.proofs.Marking.{MovedTo, moved_none, moved_keep, moved_put, moved_all}
+use Rattle.needs.proofs.Marking.{MovedTo}
 use Rattle.needs.proofs.arrows.mark_state.Given as goal
 
 abbrev pub invariant-actions : goal.invariant-actions

@@ -1,6 +1,5 @@
 -- `needs::arrows::put` meets its contract.
 -- Assumes nothing.
-use borrow.Author.Rules.{rules}
 use native.Mathlib.Omega.{arith}
 use lib.ListN.{length-set}
 use Rattle.needs.proofs.arrows.put.Goals as goal

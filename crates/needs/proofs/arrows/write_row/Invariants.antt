@@ -1,14 +1,10 @@
 -- `needs::arrows::write_row` meets its contract. The loop's invariant: the arrows to the boxes passed stand on the list.
 -- Assumes nothing.
-use borrow.Author.Rules.{rules}
-use native.Mathlib.Omega.{arith}
-use mathlib.Core.Path.{sym, ◌∙◌}
 use mathlib.Core.List.{◌++◌}
 use Prim.Native.Nat.{◌≤◌, ◌-◌}
 use Rattle.noninterference.specs.Rounds.{arrows_from, arrows_upto}
 use Rattle.needs.specs.Marks.{wanted_in}
 use Rattle.needs.specs.Listed.{Written}
-use Rattle.needs.proofs.Listing.{wanted_room, row_none, row_skip, row_more, row_all}
 use Rattle.needs.proofs.arrows.write_row.Given as goal
 
 abbrev pub invariant-targets : goal.invariant-targets

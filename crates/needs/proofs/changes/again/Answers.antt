@@ -1,6 +1,5 @@
 -- `needs::changes::again` meets its contract.
 -- Assumes nothing.
-use borrow.Author.Rules.{rules}
 use native.Mathlib.Omega.{arith}
 use Rattle.needs.proofs.Moving.{covered_touched}
 use Rattle.needs.proofs.changes.again.Goals as goal

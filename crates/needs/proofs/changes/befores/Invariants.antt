@@ -1,12 +1,7 @@
 -- `needs::changes::befores` meets its contract. The loops' invariant: the actions passed of the states passed are in the rows that they lead to.
 -- Assumes nothing.
-use borrow.Author.Rules.{rules}
-use native.Mathlib.Omega.{arith}
-use Prim.Native.Nat.{◌≤◌, ◌-◌, ◌*◌}
-use lib.ListN.{length-replicate}
-use mathlib.Core.Bool.{Bool, false}
-use Rattle.model.specs.Limits.{STATES}
-use Rattle.needs.proofs.Looking.{BeforesTo, befores_none, befores_more, befores_row, befores_all}
+use Prim.Native.Nat.{◌≤◌, ◌-◌}
+use Rattle.needs.proofs.Looking.{BeforesTo}
 use Rattle.needs.proofs.changes.befores.Given as goal
 
 abbrev pub invariant-actions : goal.invariant-actions

@@ -1,8 +1,6 @@
 -- `needs::changes::largest` meets its contract. Nothing is promised of what is kept but that it is found safely.
 -- Assumes nothing.
-use borrow.Author.Rules.{rules}
 use native.Mathlib.Omega.{arith}
-use Prim.Native.Nat.{◌≤◌, ◌-◌}
 use Rattle.needs.proofs.changes.largest.Goals as goal
 
 pub sizes-sizes-requires : goal.sizes-sizes-requires

@@ -2,10 +2,8 @@
 -- Assumes nothing.
 use native.Mathlib.Omega.{arith}
 use mathlib.Core.Bool.{Bool, false}
-use Prim.Native.Nat.{◌≤◌, ◌-◌}
 use lib.ListN.{length-replicate}
 use Rattle.model.specs.Limits.{STATES}
-use Rattle.needs.specs.Again.{Covered}
 use Rattle.needs.proofs.Moving.{covered_none, covered_more, covered_all}
 use Rattle.needs.proofs.changes.leading.Goals as goal
 

@@ -1,10 +1,7 @@
 -- `needs::changes::merge` meets its contract. The loop's invariant: the states passed are marked where row x has them.
 -- Assumes nothing.
-use borrow.Author.Rules.{rules}
 use native.Mathlib.Omega.{arith}
-use Prim.Native.Nat.{◌≤◌, ◌-◌}
-use Rattle.model.specs.Limits.{STATES}
-use Rattle.needs.proofs.Looking.{MergedTo, merged_none, merged_more, merged_all}
+use Rattle.needs.proofs.Looking.{merged_none, merged_more, merged_all}
 use Rattle.needs.proofs.changes.merge.Goals as goal
 
 pub states-init : goal.states-init

@@ -1,10 +1,8 @@
 -- `needs::changes::merge` meets its contract. The loop's invariant: the states passed are marked where row x has them.
 -- Assumes nothing.
-use borrow.Author.Rules.{rules}
-use native.Mathlib.Omega.{arith}
 use Prim.Native.Nat.{◌≤◌, ◌-◌}
 use Rattle.model.specs.Limits.{STATES}
-use Rattle.needs.proofs.Looking.{MergedTo, merged_none, merged_more, merged_all}
+use Rattle.needs.proofs.Looking.{MergedTo}
 use Rattle.needs.proofs.changes.merge.Given as goal
 
 abbrev pub invariant-states : goal.invariant-states

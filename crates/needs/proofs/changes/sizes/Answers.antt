@@ -1,8 +1,6 @@
 -- `needs::changes::sizes` meets its contract. Nothing is promised of the sizes but that they are counted safely.
 -- Assumes nothing.
-use borrow.Author.Rules.{rules}
 use native.Mathlib.Omega.{arith}
-use Prim.Native.Nat.{◌≤◌, ◌-◌}
 use Rattle.needs.proofs.changes.sizes.Goals as goal
 
 pub states-init : goal.states-init

@@ -2,10 +2,9 @@
 -- Assumes nothing.
 use native.Mathlib.Omega.{arith}
 use mathlib.Core.Bool.{Bool, false}
-use Prim.Native.Nat.{◌≤◌, ◌-◌}
 use lib.ListN.{length-replicate}
 use Rattle.model.specs.Limits.{STATES}
-use Rattle.needs.proofs.Looking.{TouchedTo, touched_none, touched_skip, touched_merge, touched_all}
+use Rattle.needs.proofs.Looking.{touched_none, touched_skip, touched_merge, touched_all}
 use Rattle.needs.proofs.changes.touched.Goals as goal
 
 pub states-init : goal.states-init

@@ -1,11 +1,7 @@
 -- `needs::changes::touched` meets its contract. The loop's invariant: what leads to a state passed that is outside the part kept is marked.
 -- Assumes nothing.
-use native.Mathlib.Omega.{arith}
-use mathlib.Core.Bool.{Bool, false}
 use Prim.Native.Nat.{◌≤◌, ◌-◌}
-use lib.ListN.{length-replicate}
-use Rattle.model.specs.Limits.{STATES}
-use Rattle.needs.proofs.Looking.{TouchedTo, touched_none, touched_skip, touched_merge, touched_all}
+use Rattle.needs.proofs.Looking.{TouchedTo}
 use Rattle.needs.proofs.changes.touched.Given as goal
 
 abbrev pub invariant-states : goal.invariant-states

@@ -2,13 +2,10 @@
 -- Assumes nothing.
 use native.Mathlib.Omega.{arith}
 use mathlib.Core.Path.{refl, ◌∙◌}
-use Prim.Native.Nat.{ℕ, ◌≤◌, ◌-◌}
+use Prim.Native.Nat.{ℕ}
 use lib.ListN.{length-replicate}
 use Rattle.model.specs.Limits.{STATES}
-use Rattle.reach.specs.Set.{flag_at}
-use Rattle.needs.specs.Classes.{Led}
-use Rattle.needs.specs.Starts.{SLOTS, Begun}
-use Rattle.needs.specs.Own.{seen_by, output_slot, no_class}
+use Rattle.needs.specs.Starts.{SLOTS}
 use Rattle.needs.proofs.Agreeing.{led_none, led_more, led_all}
 use Rattle.needs.proofs.Starting.{begun_none}
 use Rattle.needs.proofs.outputs.first_round.Goals as goal

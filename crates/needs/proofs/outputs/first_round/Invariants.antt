@@ -1,16 +1,10 @@
 -- `needs::outputs::first_round` meets its contract. The loop's invariant: the class numbers of the states passed stand in d, and their small numbers have starts.
 -- Assumes nothing.
-use native.Mathlib.Omega.{arith}
-use mathlib.Core.Path.{refl, ◌∙◌}
-use Prim.Native.Nat.{ℕ, ◌≤◌, ◌-◌}
-use lib.ListN.{length-replicate}
-use Rattle.model.specs.Limits.{STATES}
+use Prim.Native.Nat.{◌≤◌, ◌-◌}
 use Rattle.reach.specs.Set.{flag_at}
 use Rattle.needs.specs.Classes.{Led}
-use Rattle.needs.specs.Starts.{SLOTS, Begun}
+use Rattle.needs.specs.Starts.{Begun}
 use Rattle.needs.specs.Own.{seen_by, output_slot, no_class}
-use Rattle.needs.proofs.Agreeing.{led_none, led_more, led_all}
-use Rattle.needs.proofs.Starting.{begun_none}
 use Rattle.needs.proofs.outputs.first_round.Given as goal
 
 abbrev pub invariant-states : goal.invariant-states

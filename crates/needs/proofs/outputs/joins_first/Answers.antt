@@ -1,6 +1,5 @@
 -- `needs::outputs::joins_first` meets its contract.
 -- Assumes nothing.
-use borrow.Author.Rules.{rules}
 use Rattle.laws.specs.Choice.{both}
 use Rattle.needs.proofs.outputs.joins_first.Goals as goal
 

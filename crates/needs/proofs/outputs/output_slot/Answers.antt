@@ -1,10 +1,7 @@
 -- `needs::outputs::output_slot` meets its contract. The loop's invariant: it is the small number of the outputs passed.
 -- Assumes nothing.
 use native.Mathlib.Omega.{arith}
-use mathlib.Core.Path.{◌≡◌, ◌∙◌, ap}
-use Prim.Native.Nat.{ℕ, ◌≤◌, ◌-◌}
-use Rattle.needs.specs.Tables.{entry}
-use Rattle.needs.specs.Starts.{slot_of}
+use mathlib.Core.Path.{◌∙◌, ap}
 use Rattle.needs.specs.Own.{output_in}
 use Rattle.needs.proofs.Starting.{slot_begun, slot_more, slot_bound, slot_all}
 use Rattle.needs.proofs.Owning.{listed_in}

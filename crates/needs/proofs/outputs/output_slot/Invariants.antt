@@ -1,13 +1,10 @@
 -- `needs::outputs::output_slot` meets its contract. The loop's invariant: it is the small number of the outputs passed.
 -- Assumes nothing.
-use native.Mathlib.Omega.{arith}
-use mathlib.Core.Path.{◌≡◌, ◌∙◌, ap}
+use mathlib.Core.Path.{◌≡◌}
 use Prim.Native.Nat.{ℕ, ◌≤◌, ◌-◌}
 use Rattle.needs.specs.Tables.{entry}
 use Rattle.needs.specs.Starts.{slot_of}
 use Rattle.needs.specs.Own.{output_in}
-use Rattle.needs.proofs.Starting.{slot_begun, slot_more, slot_bound, slot_all}
-use Rattle.needs.proofs.Owning.{listed_in}
 use Rattle.needs.proofs.outputs.output_slot.Given as goal
 
 abbrev pub invariant-actions : goal.invariant-actions

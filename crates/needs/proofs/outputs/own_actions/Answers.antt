@@ -1,10 +1,9 @@
 -- `needs::outputs::own_actions` meets its contract. The loop's invariant: the actions of u that are passed are listed.
 -- Assumes nothing.
 use native.Mathlib.Omega.{arith}
-use Prim.Native.Nat.{ℕ, ◌≤◌, ◌-◌}
+use Prim.Native.Nat.{ℕ}
 use lib.ListN.{length-replicate}
 use Rattle.model.specs.Limits.{ACTIONS}
-use Rattle.needs.specs.Own.{Owned}
 use Rattle.needs.proofs.Owning.{owned_none, owned_skip, owned_more, owned_all}
 use Rattle.needs.proofs.outputs.own_actions.Goals as goal
 

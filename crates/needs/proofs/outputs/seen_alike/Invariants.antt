@@ -1,10 +1,8 @@
 -- `needs::outputs::seen_alike` meets its contract. The loop's invariant: no action passed has another output.
 -- Assumes nothing.
-use native.Mathlib.Omega.{arith}
 use Prim.Native.Nat.{◌≤◌, ◌-◌}
 use Rattle.laws.specs.Range.{Held}
-use Rattle.laws.proofs.Range.{held_none}
-use Rattle.needs.proofs.Owning.{listed_in, SameBy, seen_apart, seen_more, seen_all}
+use Rattle.needs.proofs.Owning.{SameBy}
 use Rattle.needs.proofs.outputs.seen_alike.Given as goal
 
 abbrev pub invariant-actions : goal.invariant-actions

@@ -1,13 +1,9 @@
 -- `needs::outputs::seen_from` meets its contract. The loop's invariant: no state passed counts and has the outputs of s.
 -- Assumes nothing.
-use native.Mathlib.Omega.{arith}
-use mathlib.Core.Path.{sym, ◌∙◌}
 use Prim.Native.Nat.{◌≤◌, ◌-◌}
 use Rattle.reach.specs.Set.{flag_at}
 use Rattle.needs.specs.Classes.{Missed}
 use Rattle.needs.specs.Own.{seen_by}
-use Rattle.needs.proofs.Agreeing.{missed_follows, missed_more, missed_hit, missed_all}
-use Rattle.needs.proofs.Owning.{seen_joined}
 use Rattle.needs.proofs.outputs.seen_from.Given as goal
 
 abbrev pub invariant-earlier : goal.invariant-earlier

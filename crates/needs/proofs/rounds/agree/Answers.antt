@@ -2,11 +2,9 @@
 -- Assumes nothing.
 use borrow.Author.Rules.{rules}
 use native.Mathlib.Omega.{arith}
-use Prim.Native.Nat.{◌≤◌, ◌-◌}
-use Rattle.laws.specs.Range.{Held}
 use Rattle.laws.proofs.Range.{held_none}
 use Rattle.needs.specs.Tables.{step_in, entry}
-use Rattle.needs.proofs.Agreeing.{SameAfter, agrees_apart, agrees_parts, agrees_all, agrees_more}
+use Rattle.needs.proofs.Agreeing.{agrees_apart, agrees_parts, agrees_all, agrees_more}
 use Rattle.needs.proofs.rounds.agree.Goals as goal
 
 pub returns-then-c-t : goal.returns-then-c-t

@@ -1,12 +1,9 @@
 -- `needs::rounds::agree` meets its contract. The loop's invariant: the class numbers are one after each action passed.
 -- Assumes nothing.
-use borrow.Author.Rules.{rules}
-use native.Mathlib.Omega.{arith}
 use Prim.Native.Nat.{◌≤◌, ◌-◌}
 use Rattle.laws.specs.Range.{Held}
-use Rattle.laws.proofs.Range.{held_none}
 use Rattle.needs.specs.Tables.{step_in, entry}
-use Rattle.needs.proofs.Agreeing.{SameAfter, agrees_apart, agrees_parts, agrees_all, agrees_more}
+use Rattle.needs.proofs.Agreeing.{SameAfter}
 use Rattle.needs.proofs.rounds.agree.Given as goal
 
 abbrev pub invariant-actions : goal.invariant-actions

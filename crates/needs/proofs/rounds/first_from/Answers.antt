@@ -1,12 +1,8 @@
 -- `needs::rounds::first_from` meets its contract. The loop's invariant: no state passed counts and agrees with s.
 -- Assumes nothing.
-use borrow.Author.Rules.{rules}
 use native.Mathlib.Omega.{arith}
 use mathlib.Core.Path.{sym, ◌∙◌}
-use Prim.Native.Nat.{◌≤◌, ◌-◌}
-use Rattle.reach.specs.Set.{flag_at}
 use Rattle.needs.specs.Tables.{step_in, entry}
-use Rattle.needs.specs.Classes.{Missed, agrees}
 use Rattle.needs.proofs.Agreeing.{missed_follows, missed_more, missed_hit, missed_all, agrees_joined}
 use Rattle.needs.proofs.rounds.first_from.Goals as goal
 

@@ -1,6 +1,5 @@
 -- `needs::rounds::joins` meets its contract.
 -- Assumes nothing.
-use native.Mathlib.Omega.{arith}
 use Rattle.laws.specs.Choice.{both}
 use Rattle.needs.proofs.rounds.joins.Goals as goal
 

@@ -1,6 +1,5 @@
 -- `needs::rounds::kept` meets its contract.
 -- Assumes nothing.
-use borrow.Author.Rules.{rules}
 use Rattle.needs.proofs.Moving.{kept_known, kept_old}
 use Rattle.needs.proofs.rounds.kept.Goals as goal
 

@@ -1,6 +1,5 @@
 -- `needs::rounds::known` meets its contract.
 -- Assumes nothing.
-use borrow.Author.Rules.{rules}
 use native.Mathlib.Omega.{arith}
 use Rattle.laws.proofs.Tests.{not_both}
 use Rattle.needs.proofs.rounds.known.Goals as goal

@@ -1,6 +1,5 @@
 -- `needs::rounds::note` meets its contract.
 -- Assumes nothing.
-use borrow.Author.Rules.{rules}
 use native.Mathlib.Omega.{arith}
 use Rattle.needs.proofs.Moving.{longer_same, noted_more, noted_here}
 use Rattle.needs.proofs.rounds.note.Goals as goal

@@ -1,6 +1,5 @@
 -- `needs::rounds::place` meets its contract.
 -- Assumes nothing.
-use borrow.Author.Rules.{rules}
 use native.Mathlib.Omega.{arith}
 use mathlib.Core.Path.{◌∙◌, ap}
 use Rattle.needs.specs.Again.{kept_number}

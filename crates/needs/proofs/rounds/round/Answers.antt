@@ -2,17 +2,15 @@
 -- Assumes nothing.
 use native.Mathlib.Omega.{arith}
 use mathlib.Core.Path.{refl, sym, ◌∙◌, ap, subst}
-use Prim.Native.Nat.{ℕ, ◌≤◌, ◌-◌}
+use Prim.Native.Nat.{ℕ, ◌≤◌}
 use lib.ListN.{length-replicate}
 use Rattle.model.specs.Limits.{STATES}
-use Rattle.reach.specs.Set.{flag_at}
 use Rattle.needs.specs.Tables.{step_in, entry}
-use Rattle.needs.specs.Classes.{agrees, Led}
-use Rattle.needs.specs.Again.{Leads, MovedTo, kept_number}
-use Rattle.needs.specs.Starts.{SLOTS, next_slot, Begun}
+use Rattle.needs.specs.Again.{kept_number}
+use Rattle.needs.specs.Starts.{SLOTS}
 use Rattle.needs.proofs.Agreeing.{missed_start, missed_all, led_none, led_more, led_all}
 use Rattle.needs.proofs.Looking.{leads_none, leads_keep, lead_before, lead_next}
-use Rattle.needs.proofs.Moving.{kept_known, kept_first, moved_none, moved_kept, moved_all, Same, same_none, same_more, same_kept, same_lead, same_all}
+use Rattle.needs.proofs.Moving.{kept_known, kept_first, moved_none, moved_kept, moved_all, same_none, same_more, same_kept, same_lead, same_all}
 use Rattle.needs.proofs.Starting.{begun_none, begun_old, begun_follows, below_small}
 use Rattle.needs.proofs.rounds.round.Goals as goal
 

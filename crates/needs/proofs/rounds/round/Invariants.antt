@@ -1,19 +1,12 @@
 -- `needs::rounds::round` meets its contract. The loop's invariant: the class numbers of the states passed stand in d, those of unmarked ones at their old numbers in lead, their small numbers have starts, those outside the kept parts are listed, and `same` tells whether one that counts changed.
 -- Assumes nothing.
-use native.Mathlib.Omega.{arith}
-use mathlib.Core.Path.{refl, sym, ◌∙◌, ap, subst}
-use Prim.Native.Nat.{ℕ, ◌≤◌, ◌-◌}
-use lib.ListN.{length-replicate}
-use Rattle.model.specs.Limits.{STATES}
+use Prim.Native.Nat.{◌≤◌, ◌-◌}
 use Rattle.reach.specs.Set.{flag_at}
 use Rattle.needs.specs.Tables.{step_in, entry}
 use Rattle.needs.specs.Classes.{agrees, Led}
-use Rattle.needs.specs.Again.{Leads, MovedTo, kept_number}
-use Rattle.needs.specs.Starts.{SLOTS, next_slot, Begun}
-use Rattle.needs.proofs.Agreeing.{missed_start, missed_all, led_none, led_more, led_all}
-use Rattle.needs.proofs.Looking.{leads_none, leads_keep, lead_before, lead_next}
-use Rattle.needs.proofs.Moving.{kept_known, kept_first, moved_none, moved_kept, moved_all, Same, same_none, same_more, same_kept, same_lead, same_all}
-use Rattle.needs.proofs.Starting.{begun_none, begun_old, begun_follows, below_small}
+use Rattle.needs.specs.Again.{Leads, MovedTo}
+use Rattle.needs.specs.Starts.{next_slot, Begun}
+use Rattle.needs.proofs.Moving.{Same}
 use Rattle.needs.proofs.rounds.round.Given as goal
 
 abbrev pub invariant-states : goal.invariant-states

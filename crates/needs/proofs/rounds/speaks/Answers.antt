@@ -1,6 +1,5 @@
 -- `needs::rounds::speaks` meets its contract.
 -- Assumes nothing.
-use borrow.Author.Rules.{rules}
 use mathlib.Core.Path.{refl}
 use Rattle.laws.proofs.Tests.{not_both}
 use Rattle.needs.proofs.rounds.speaks.Goals as goal

@@ -1,11 +1,7 @@
 -- `needs::rounds::stayed` meets its contract. The loop's invariant: the list goes on, and has the states passed that stayed.
 -- Assumes nothing.
-use borrow.Author.Rules.{rules}
-use native.Mathlib.Omega.{arith}
-use mathlib.Core.Path.{◌∙◌}
 use Prim.Native.Nat.{◌-◌}
 use Rattle.needs.specs.Again.{Longer, Stayed}
-use Rattle.needs.proofs.Moving.{longer_same, longer_joined, stayed_none, stayed_skip, stayed_more, stayed_all}
 use Rattle.needs.proofs.rounds.stayed.Given as goal
 
 abbrev pub invariant-earlier : goal.invariant-earlier

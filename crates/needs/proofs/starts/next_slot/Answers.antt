@@ -1,10 +1,8 @@
 -- `needs::starts::next_slot` meets its contract. The loop's invariant: it is the small number of the actions passed.
 -- Assumes nothing.
 use native.Mathlib.Omega.{arith}
-use mathlib.Core.Path.{◌≡◌, ◌∙◌, ap}
-use Prim.Native.Nat.{ℕ, ◌≤◌, ◌-◌}
-use Rattle.needs.specs.Tables.{step_in, entry}
-use Rattle.needs.specs.Starts.{slot_of}
+use mathlib.Core.Path.{◌∙◌, ap}
+use Rattle.needs.specs.Tables.{entry}
 use Rattle.needs.proofs.Starting.{slot_begun, slot_more, slot_bound, slot_all}
 use Rattle.needs.proofs.starts.next_slot.Goals as goal
 

@@ -1,11 +1,9 @@
 -- `needs::starts::next_slot` meets its contract. The loop's invariant: it is the small number of the actions passed.
 -- Assumes nothing.
-use native.Mathlib.Omega.{arith}
-use mathlib.Core.Path.{◌≡◌, ◌∙◌, ap}
+use mathlib.Core.Path.{◌≡◌}
 use Prim.Native.Nat.{ℕ, ◌≤◌, ◌-◌}
 use Rattle.needs.specs.Tables.{step_in, entry}
 use Rattle.needs.specs.Starts.{slot_of}
-use Rattle.needs.proofs.Starting.{slot_begun, slot_more, slot_bound, slot_all}
 use Rattle.needs.proofs.starts.next_slot.Given as goal
 
 abbrev pub invariant-actions : goal.invariant-actions

@@ -1,6 +1,5 @@
 -- `needs::starts::start_of` meets its contract.
 -- Assumes nothing.
-use borrow.Author.Rules.{rules}
 use native.Mathlib.Omega.{arith}
 use Rattle.needs.proofs.Starting.{began_there, began_here}
 use Rattle.needs.proofs.starts.start_of.Goals as goal

@@ -2,7 +2,6 @@
 use mathlib.Core.Path.{refl}
 use Rattle.sheet.specs.Reading.{zeros}
 use Rattle.sheet.proofs.LabelPlace.{found_refused, found_box, found_place, found_none}
-use borrow.Author.Rules.{rules}
 use Rattle.sheet.proofs.labels.label_found.Goals as goal
 
 pub read_text-sheet-requires : goal.read_text-sheet-requires

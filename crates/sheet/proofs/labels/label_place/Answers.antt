@@ -1,7 +1,6 @@
 -- `sheet::labels::label_place` meets its contract. Assumes nothing.
 use native.Mathlib.Omega.{arith}
 use Rattle.sheet.proofs.LabelPlace.{end_within, word_within, id_within, place_is}
-use borrow.Author.Rules.{rules}
 use Rattle.sheet.proofs.labels.label_place.Goals as goal
 
 pub slice_bounds-line-end : goal.slice_bounds-line-end

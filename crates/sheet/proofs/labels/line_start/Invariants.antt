@@ -1,14 +1,9 @@
 -- `sheet::labels::line_start` meets its contract: `at` is where line `k` starts. Assumes nothing.
 use Prim.Native.Nat.{◌<◌, ◌≤◌, ◌-◌}
-use mathlib.Core.Path.{◌≡◌, refl, ◌∙◌}
-use native.Mathlib.Omega.{arith}
-use native.Mathlib.Numerals.{add-one}
+use mathlib.Core.Path.{◌≡◌}
 use lib.ListN.{length}
 use Rattle.text.specs.Lines.{lines, Ended}
-use Rattle.text.proofs.Parts.{line_ends}
 use Rattle.sheet.specs.Label.{line_start}
-use Rattle.sheet.proofs.Places.{placed}
-use borrow.Author.Rules.{rules}
 use Rattle.sheet.proofs.labels.line_start.Given as goal
 
 abbrev pub invariant-loop-k : goal.invariant-loop-k

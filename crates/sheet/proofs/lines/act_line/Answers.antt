@@ -2,7 +2,6 @@
 use mathlib.Core.Path.{sym, ◌∙◌}
 use borrow.Author.Tests.{lt-ltb, le-ltb}
 use Rattle.sheet.specs.Records.{act_line}
-use borrow.Author.Rules.{rules}
 use Rattle.sheet.proofs.lines.act_line.Goals as goal
 
 pub returns-then-p-ids : goal.returns-then-p-ids

@@ -2,7 +2,6 @@
 use mathlib.Core.Path.{sym, ◌∙◌}
 use borrow.Author.Tests.{lt-ltb, le-ltb}
 use Rattle.sheet.specs.Records.{arrow_line}
-use borrow.Author.Rules.{rules}
 use Rattle.sheet.proofs.lines.arrow_line.Goals as goal
 
 pub returns-then-ids-v : goal.returns-then-ids-v

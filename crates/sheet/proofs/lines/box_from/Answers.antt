@@ -3,7 +3,6 @@ use mathlib.Core.Path.{ap, ◌∙◌}
 use native.Mathlib.Omega.{arith}
 use Rattle.text.specs.declared.Field.{Field}
 use Rattle.sheet.proofs.Fields.{none, one, two, more}
-use borrow.Author.Rules.{rules}
 use Rattle.sheet.proofs.lines.box_from.Goals as goal
 
 pub returns-then-line-from : goal.returns-then-line-from

@@ -3,7 +3,6 @@ use mathlib.Core.Path.{sym, ◌∙◌}
 use Rattle.sheet.specs.Words as words
 use Rattle.sheet.specs.Records.{box_line}
 use Rattle.sheet.proofs.Fields.{rest_after}
-use borrow.Author.Rules.{rules}
 use Rattle.sheet.proofs.lines.box_line.Goals as goal
 
 pub returns-then-starts : goal.returns-then-starts

@@ -1,7 +1,6 @@
 -- `sheet::box_of` meets its contract. Assumes nothing.
 use mathlib.Core.Path.{sym, ◌∙◌}
 use borrow.Author.Tests.{lt-ltb, le-ltb}
-use borrow.Author.Rules.{rules}
 use Rattle.sheet.proofs.lines.box_of.Goals as goal
 
 pub returns-then-position-ids : goal.returns-then-position-ids

@@ -1,7 +1,6 @@
 -- `sheet::flow_line` meets its contract. Assumes nothing.
 use mathlib.Core.Path.{sym, ◌∙◌}
 use Rattle.sheet.specs.Records.{flow_line}
-use borrow.Author.Rules.{rules}
 use Rattle.sheet.proofs.lines.flow_line.Goals as goal
 
 pub returns-in-Not : goal.returns-in-Not

@@ -2,7 +2,6 @@
 use mathlib.Core.Path.{sym, ◌∙◌}
 use borrow.Author.Tests.{eq-eqb, ne_eqb, lt-ltb, le-ltb}
 use Rattle.sheet.specs.Records.{go_line}
-use borrow.Author.Rules.{rules}
 use Rattle.sheet.proofs.lines.go_line.Goals as goal
 
 pub returns-then-s-state : goal.returns-then-s-state

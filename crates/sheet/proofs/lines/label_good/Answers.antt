@@ -2,7 +2,6 @@
 use native.Mathlib.Omega.{arith}
 use borrow.Author.Tests.{lt-ltb, le-ltb, le-leb, lt-leb}
 use lib.ListN.{length}
-use borrow.Author.Rules.{rules}
 use Rattle.sheet.proofs.lines.label_good.Goals as goal
 
 pub returns-then-label-eq0 : goal.returns-then-label-eq0

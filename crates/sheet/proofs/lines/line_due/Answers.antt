@@ -1,5 +1,4 @@
 -- `sheet::line_due` meets its contract. Assumes nothing.
-use borrow.Author.Rules.{rules}
 use Rattle.sheet.proofs.lines.line_due.Goals as goal
 
 pub returns-in-Sheet : goal.returns-in-Sheet

@@ -1,13 +1,9 @@
 -- `sheet::numbers_from` meets its contract. Assumes nothing.
-use Prim.Native.Nat.{◌-◌}
 use mathlib.Core.Path.{sym, ap, ◌∙◌}
-use mathlib.Core.Logic.{⊎_elim}
 use native.Mathlib.Omega.{arith}
-use lib.ListN.{length}
 use Rattle.text.specs.declared.Field.{Field}
 use Rattle.text.proofs.Parts.{end_within}
-use Rattle.sheet.proofs.Collect.{At, start, too_many, too_few, all, a_number, no_number}
-use borrow.Author.Rules.{rules}
+use Rattle.sheet.proofs.Collect.{start, too_many, too_few, all, a_number, no_number}
 use Rattle.sheet.proofs.lines.numbers_from.Goals as goal
 use Rattle.sheet.proofs.lines.numbers_from.Goals.{in-Good, in-Bad}
 
@@ -23,8 +19,8 @@ overflow_add-at c = omega (arith, ap (λ (f : Field). f.end) c.number_from-field
 pub loop-k-preserved : goal.loop-k-preserved
 loop-k-preserved c = rw (ap (λ (f : Field). f.end) c.number_from-field.ensures)
     (elim c.match-number.branch [
-      in-Good w ↦ rw (w.values-is, w.good-is) (a_number c.loop-k.invariant (omega arith) (omega arith) _ (sym (ap (λ (f : Field). f.number) c.number_from-field.ensures) ∙ w.in-Good.is))
-    | in-Bad w ↦ rw (w.values-is, w.good-is) (no_number c.loop-k.invariant (omega arith) (omega arith) (sym (ap (λ (f : Field). f.number) c.number_from-field.ensures) ∙ w.in-Bad.is))
+      | in-Good w ↦ rw (w.values-is, w.good-is) (a_number c.loop-k.invariant (omega arith) (omega arith) _ (sym (ap (λ (f : Field). f.number) c.number_from-field.ensures) ∙ w.in-Good.is))
+      | in-Bad w ↦ rw (w.values-is, w.good-is) (no_number c.loop-k.invariant (omega arith) (omega arith) (sym (ap (λ (f : Field). f.number) c.number_from-field.ensures) ∙ w.in-Bad.is))
     ])
 
 pub returns-then-at-line : goal.returns-then-at-line

@@ -1,14 +1,13 @@
 -- `sheet::plain` meets its contract: the bytes passed are plain, so the answer is that of the rest. Assumes nothing.
-use Prim.Native.Nat.{ℕ, ◌≤◌, ◌<◌, ◌+◌, ◌-◌}
+use Prim.Native.Nat.{ℕ, ◌≤◌, ◌<◌, ◌+◌}
 use mathlib.Core.Path.{◌≡◌, refl, sym, ◌∙◌}
 use mathlib.Core.Bool.{true, false}
 use mathlib.Core.List.{List}
 use native.Mathlib.Omega.{arith}
 use borrow.Author.Tests.{le-leb, lt-leb}
-use lib.ListN.{length, get_or, drop, drop_of_length-le}
+use lib.ListN.{length, get_or, drop_of_length-le}
 use Rattle.text.proofs.Parts.{at}
 use Rattle.sheet.specs.Records.{plain}
-use borrow.Author.Rules.{rules}
 use Rattle.sheet.proofs.lines.plain.Invariants.{At}
 use Rattle.sheet.proofs.lines.plain.Goals as goal
 

@@ -1,14 +1,9 @@
 -- `sheet::plain` meets its contract: the bytes passed are plain, so the answer is that of the rest. Assumes nothing.
-use Prim.Native.Nat.{ℕ, ◌≤◌, ◌<◌, ◌+◌, ◌-◌}
-use mathlib.Core.Path.{◌≡◌, refl, sym, ◌∙◌}
-use mathlib.Core.Bool.{true, false}
+use Prim.Native.Nat.{ℕ, ◌-◌}
+use mathlib.Core.Path.{◌≡◌}
 use mathlib.Core.List.{List}
-use native.Mathlib.Omega.{arith}
-use borrow.Author.Tests.{le-leb, lt-leb}
-use lib.ListN.{length, get_or, drop, drop_of_length-le}
-use Rattle.text.proofs.Parts.{at}
+use lib.ListN.{length, drop}
 use Rattle.sheet.specs.Records.{plain}
-use borrow.Author.Rules.{rules}
 use Rattle.sheet.proofs.lines.plain.Given as goal
 
 pub record At (s : List ℕ) (i : ℕ) : Type 0 where

@@ -1,11 +1,7 @@
 -- `sheet::position` meets its contract: none of the ids passed is the one looked for. Assumes nothing.
-use Prim.Native.Nat.{◌-◌}
-use mathlib.Core.Path.{◌≡◌, sym, ◌∙◌}
+use mathlib.Core.Path.{sym, ◌∙◌}
 use native.Mathlib.Omega.{arith}
-use lib.ListN.{length}
-use Rattle.text.specs.Lines.{before, end_of}
 use Rattle.text.proofs.Parts.{end_here, end_past, end_over}
-use borrow.Author.Rules.{rules}
 use Rattle.sheet.proofs.lines.position.Goals as goal
 
 pub loop-k-init : goal.loop-k-init

@@ -1,11 +1,8 @@
 -- `sheet::position` meets its contract: none of the ids passed is the one looked for. Assumes nothing.
 use Prim.Native.Nat.{◌-◌}
-use mathlib.Core.Path.{◌≡◌, sym, ◌∙◌}
-use native.Mathlib.Omega.{arith}
+use mathlib.Core.Path.{◌≡◌}
 use lib.ListN.{length}
 use Rattle.text.specs.Lines.{before, end_of}
-use Rattle.text.proofs.Parts.{end_here, end_past, end_over}
-use borrow.Author.Rules.{rules}
 use Rattle.sheet.proofs.lines.position.Given as goal
 
 abbrev pub invariant-loop-k : goal.invariant-loop-k

@@ -2,7 +2,6 @@
 use mathlib.Core.Path.{sym, ◌∙◌}
 use Rattle.sheet.specs.Numbers.{record_of}
 use Rattle.sheet.proofs.Fields.{rest_after}
-use borrow.Author.Rules.{rules}
 use Rattle.sheet.proofs.lines.record_of.Goals as goal
 
 pub returns-then-starts : goal.returns-then-starts

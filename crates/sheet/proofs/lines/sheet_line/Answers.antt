@@ -1,8 +1,7 @@
 -- `sheet::sheet_line` meets its contract. Assumes nothing.
 use mathlib.Core.Path.{sym, ◌∙◌}
-use borrow.Author.Tests.{lt-ltb, le-ltb, not-true, not-false}
+use borrow.Author.Tests.{lt-ltb, le-ltb}
 use Rattle.sheet.specs.Records.{sheet_line}
-use borrow.Author.Rules.{rules}
 use Rattle.sheet.proofs.lines.sheet_line.Goals as goal
 
 pub returns-then-not-sized : goal.returns-then-not-sized

@@ -2,7 +2,6 @@
 use mathlib.Core.Path.{sym, ◌∙◌}
 use borrow.Author.Tests.{eq-eqb, ne_eqb}
 use Rattle.sheet.specs.Records.{view_line}
-use borrow.Author.Rules.{rules}
 use Rattle.sheet.proofs.lines.view_line.Goals as goal
 
 pub returns-then-i-id : goal.returns-then-i-id

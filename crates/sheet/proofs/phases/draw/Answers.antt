@@ -7,7 +7,6 @@ use lib.Bits.{bit_or}
 use lib.ListN.{get_or, set}
 use lib.Pow.{shl_exact}
 use Rattle.laws.specs.Sets.{including}
-use borrow.Author.Rules.{rules}
 use Rattle.sheet.proofs.phases.draw.Goals as goal
 
 pub returns : goal.returns

@@ -1,22 +1,14 @@
 -- `sheet::read_acts` meets its contract. Assumes nothing.
-use Prim.Native.Nat.{ℕ, ◌≤◌, ◌-◌}
-use mathlib.Core.Path.{◌≡◌, refl, sym, ◌∙◌}
-use mathlib.Core.List.{List}
+use mathlib.Core.Path.{refl, sym, ◌∙◌}
 use native.Mathlib.Omega.{arith}
-use lib.ListN.{length, drop, set, length-set}
-use Rattle.model.specs.Limits.{ACTIONS, BOXES}
-use Rattle.text.specs.Lines.{lines}
-use Rattle.sheet.specs.declared.Record.{Record}
-use Rattle.sheet.specs.Records.{act_line}
-use Rattle.sheet.specs.Phases.{acts}
-use Rattle.sheet.proofs.Going.{Going, start, over, stopped, took, said, line_fits}
+use lib.ListN.{length-set}
+use Rattle.sheet.proofs.Going.{start, over, stopped, took, said, line_fits}
 use Rattle.sheet.proofs.Good.{act_good}
-use borrow.Author.Rules.{rules}
-use Rattle.sheet.proofs.phases.read_acts.Invariants.{At, due, kept}
+use Rattle.sheet.proofs.phases.read_acts.Invariants.{due, kept}
 use Rattle.sheet.proofs.phases.read_acts.Goals as goal
 
 pub loop-k-init : goal.loop-k-init
-loop-k-init c = record { small = c.requires.2; few-ids = c.requires.3; room = refl; going = start (due _) kept _ _ _ _ _ c.requires.0 c.requires.1 }
+loop-k-init c = record { small = c.requires.2; few_ids = c.requires.3; room = refl; going = start (due _) kept _ _ _ _ _ c.requires.0 c.requires.1 }
 
 pub returns-in-Stopped : goal.returns-in-Stopped
 returns-in-Stopped c = (stopped c.loop-k.invariant.going (omega arith) _ (sym c.take_due.ensures ∙ c.in-Stopped.is), tt)
@@ -28,7 +20,7 @@ pub overflow_add-line : goal.overflow_add-line
 overflow_add-line c = omega (arith, line_fits c.loop-k.invariant.going (omega arith) (sym c.take_due.ensures ∙ c.in-Took.is))
 
 pub loop-k-preserved : goal.loop-k-preserved
-loop-k-preserved c = record { small = c.loop-k.invariant.small; few-ids = c.loop-k.invariant.few-ids; room = simp length-set c.loop-k.invariant.room; going = took c.loop-k.invariant.going (omega arith) (sym c.take_due.ensures ∙ c.in-Took.is) }
+loop-k-preserved c = record { small = c.loop-k.invariant.small; few_ids = c.loop-k.invariant.few_ids; room = simp length-set c.loop-k.invariant.room; going = took c.loop-k.invariant.going (omega arith) (sym c.take_due.ensures ∙ c.in-Took.is) }
 
 pub returns : goal.returns
 returns c = (over c.loop-k.invariant.going (omega arith), c.loop-k.invariant.going.few)

@@ -1,17 +1,14 @@
 -- `sheet::read_acts` meets its contract. Assumes nothing.
 use Prim.Native.Nat.{ℕ, ◌≤◌, ◌-◌}
-use mathlib.Core.Path.{◌≡◌, refl, sym, ◌∙◌}
+use mathlib.Core.Path.{◌≡◌}
 use mathlib.Core.List.{List}
-use native.Mathlib.Omega.{arith}
-use lib.ListN.{length, drop, set, length-set}
+use lib.ListN.{length, drop, set}
 use Rattle.model.specs.Limits.{ACTIONS, BOXES}
 use Rattle.text.specs.Lines.{lines}
 use Rattle.sheet.specs.declared.Record.{Record}
 use Rattle.sheet.specs.Records.{act_line}
 use Rattle.sheet.specs.Phases.{acts}
-use Rattle.sheet.proofs.Going.{Going, start, over, stopped, took, said, line_fits}
-use Rattle.sheet.proofs.Good.{act_good}
-use borrow.Author.Rules.{rules}
+use Rattle.sheet.proofs.Going.{Going}
 use Rattle.sheet.proofs.phases.read_acts.Given as goal
 
 abbrev pub due : List ℕ → ℕ → List ℕ → List ℕ → Record
@@ -22,7 +19,7 @@ kept k owners position _ _ _ = set owners k position
 
 pub record At (t : List ℕ) (from first count : ℕ) (ids owners : List ℕ) (at n k : ℕ) : Type 0 where
   pub small : count ≤ ACTIONS
-  pub few-ids : length ids ≤ BOXES
+  pub few_ids : length ids ≤ BOXES
   pub room : length owners ≡ ACTIONS
   pub going : Going (due ids) kept t (acts ids count (lines (drop from t)) first) count k owners at n
 

@@ -5,7 +5,6 @@ use native.Mathlib.Nat.{sub-zero}
 use lib.Seq.{length-take-le}
 use Rattle.sheet.specs.Reading.{parts, parts_as}
 use Rattle.sheet.proofs.Chain.{few_done, chain_last}
-use borrow.Author.Rules.{rules}
 use Rattle.sheet.proofs.phases.read_body.Goals as goal
 
 pub returns-in_default : goal.returns-in_default

@@ -1,19 +1,12 @@
 -- `sheet::read_boxes` meets its contract. Assumes nothing.
-use Prim.Native.Nat.{ℕ, ◌≤◌, ◌-◌}
-use mathlib.Core.Path.{◌≡◌, refl, sym, ◌∙◌}
-use mathlib.Core.List.{List}
+use Prim.Native.Nat.{◌-◌}
+use mathlib.Core.Path.{refl, sym, ◌∙◌}
 use native.Mathlib.Omega.{arith}
 use native.Mathlib.Nat.{sub-zero}
-use lib.ListN.{length, take, drop, set, length-set}
+use lib.ListN.{length-set}
 use lib.Seq.{length-take-le}
-use Rattle.model.specs.Limits.{BOXES}
-use Rattle.text.specs.Lines.{lines}
-use Rattle.sheet.specs.declared.Record.{Record}
-use Rattle.sheet.specs.Records.{box_line}
-use Rattle.sheet.specs.Phases.{boxes}
-use Rattle.sheet.proofs.Going.{Going, start, over, stopped, took, line_fits}
-use borrow.Author.Rules.{rules}
-use Rattle.sheet.proofs.phases.read_boxes.Invariants.{At, due, kept}
+use Rattle.sheet.proofs.Going.{start, over, stopped, took, line_fits}
+use Rattle.sheet.proofs.phases.read_boxes.Invariants.{due, kept}
 use Rattle.sheet.proofs.phases.read_boxes.Goals as goal
 
 pub loop-k-init : goal.loop-k-init

@@ -1,18 +1,14 @@
 -- `sheet::read_boxes` meets its contract. Assumes nothing.
 use Prim.Native.Nat.{ℕ, ◌≤◌, ◌-◌}
-use mathlib.Core.Path.{◌≡◌, refl, sym, ◌∙◌}
+use mathlib.Core.Path.{◌≡◌}
 use mathlib.Core.List.{List}
-use native.Mathlib.Omega.{arith}
-use native.Mathlib.Nat.{sub-zero}
-use lib.ListN.{length, take, drop, set, length-set}
-use lib.Seq.{length-take-le}
+use lib.ListN.{length, take, drop, set}
 use Rattle.model.specs.Limits.{BOXES}
 use Rattle.text.specs.Lines.{lines}
 use Rattle.sheet.specs.declared.Record.{Record}
 use Rattle.sheet.specs.Records.{box_line}
 use Rattle.sheet.specs.Phases.{boxes}
-use Rattle.sheet.proofs.Going.{Going, start, over, stopped, took, line_fits}
-use borrow.Author.Rules.{rules}
+use Rattle.sheet.proofs.Going.{Going}
 use Rattle.sheet.proofs.phases.read_boxes.Given as goal
 
 abbrev pub due : ℕ → List ℕ → List ℕ → Record

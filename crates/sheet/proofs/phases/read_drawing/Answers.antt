@@ -1,7 +1,6 @@
 -- `sheet::phases::read_drawing` meets its contract. Assumes nothing.
 use Rattle.sheet.specs.Reading.{drawing, drawn_as}
 use Rattle.sheet.proofs.Chain.{few_done, chain_last}
-use borrow.Author.Rules.{rules}
 use Rattle.sheet.proofs.phases.read_drawing.Goals as goal
 
 pub returns-in_default : goal.returns-in_default

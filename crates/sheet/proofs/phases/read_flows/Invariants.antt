@@ -1,22 +1,16 @@
 -- `sheet::read_flows` meets its contract. Assumes nothing.
 use Prim.Native.Nat.{ℕ, ◌≤◌, ◌-◌}
-use mathlib.Core.Path.{sym, ap, ◌∙◌}
 use mathlib.Core.List.{List}
-use mathlib.Core.Bool.{Bool, false}
-use mathlib.Core.Logic.{⊎_elim, inl, inr}
-use native.Mathlib.Omega.{arith}
 use lib.ListN.{length, drop, replicate}
 use Rattle.model.specs.Limits.{BOXES}
 use Rattle.model.specs.Arrows.{selves}
-use Rattle.model.proofs.Arrows.{drawn_length, selves_length}
 use Rattle.text.specs.Lines.{lines}
 use Rattle.sheet.specs.Phases.{flows}
-use Rattle.sheet.proofs.Arrows.{Flowing, over, arrow_other, arrow_bad, arrow_one, arrow_two, one_known, two_known, place_is}
-use borrow.Author.Rules.{rules}
+use Rattle.sheet.proofs.Arrows.{Flowing}
 use Rattle.sheet.proofs.phases.read_flows.Given as goal
 
 pub record At (t : List ℕ) (from first : ℕ) (ids arrows : List ℕ) (at n : ℕ) : Type 0 where
-  pub few-ids : length ids ≤ BOXES
+  pub few_ids : length ids ≤ BOXES
   pub flowing : Flowing t ids (flows ids (selves (length ids) (replicate BOXES 0)) (lines (drop from t)) first) arrows at n
 
 abbrev pub invariant-loop-at : goal.invariant-loop-at

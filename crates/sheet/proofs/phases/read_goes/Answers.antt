@@ -1,19 +1,11 @@
 -- `sheet::read_goes` meets its contract. Assumes nothing.
-use Prim.Native.Nat.{ℕ, ◌<◌, ◌≤◌, ◌-◌, ◌/◌, ◌%◌}
-use mathlib.Core.Path.{◌≡◌, refl, sym, ◌∙◌}
-use mathlib.Core.List.{List}
+use mathlib.Core.Path.{refl, sym, ◌∙◌}
 use native.Mathlib.Omega.{arith}
 use native.Mathlib.Nat.{mul-le-mul}
-use lib.ListN.{length, drop, set, length-set}
-use Rattle.model.specs.Limits.{STATES, BOXES, NEXT_ENTRIES, OUTPUT_ENTRIES}
-use Rattle.text.specs.Lines.{lines}
-use Rattle.sheet.specs.declared.Record.{Record}
-use Rattle.sheet.specs.Records.{go_line}
-use Rattle.sheet.specs.Phases.{Steps, steps, goes}
-use Rattle.sheet.proofs.Going.{Going, start, over, stopped, took, said, line_fits}
+use lib.ListN.{length-set}
+use Rattle.sheet.proofs.Going.{start, over, stopped, took, said, line_fits}
 use Rattle.sheet.proofs.Good.{go_good}
-use borrow.Author.Rules.{rules}
-use Rattle.sheet.proofs.phases.read_goes.Invariants.{At, due, kept}
+use Rattle.sheet.proofs.phases.read_goes.Invariants.{due, kept}
 use Rattle.sheet.proofs.phases.read_goes.Goals as goal
 
 pub overflow_mul-total : goal.overflow_mul-total
@@ -24,16 +16,16 @@ loop-k-init c = record {
   some = c.requires.ended.2;
   states_most = c.requires.ended.3;
   small = mul-le-mul c.requires.ended.3 c.requires.ended.4;
-  few-ids = c.requires.ids_len_bound.0;
-  next-room = c.requires.ids_len_bound.1;
-  outputs-room = c.requires.ids_len_bound.2;
-  next-length = refl;
-  outputs-length = refl;
+  few_ids = c.requires.ids_len_bound.0;
+  next_room = c.requires.ids_len_bound.1;
+  outputs_room = c.requires.ids_len_bound.2;
+  next_length = refl;
+  outputs_length = refl;
   going = start (due _ _) kept _ _ _ _ _ c.requires.ended.0 c.requires.ended.1;
 }
 
 pub take_go-requires : goal.take_go-requires
-take_go-requires c = (c.loop-k.invariant.going.closed, c.loop-k.invariant.few-ids)
+take_go-requires c = (c.loop-k.invariant.going.closed, c.loop-k.invariant.few_ids)
 
 pub returns-in-Stopped : goal.returns-in-Stopped
 returns-in-Stopped c = (stopped c.loop-k.invariant.going (omega arith) _ (sym c.take_go.ensures ∙ c.in-Stopped.is), tt)
@@ -52,11 +44,11 @@ loop-k-preserved c = record {
   some = c.loop-k.invariant.some;
   states_most = c.loop-k.invariant.states_most;
   small = c.loop-k.invariant.small;
-  few-ids = c.loop-k.invariant.few-ids;
-  next-room = c.loop-k.invariant.next-room;
-  outputs-room = c.loop-k.invariant.outputs-room;
-  next-length = simp length-set c.loop-k.invariant.next-length;
-  outputs-length = simp length-set c.loop-k.invariant.outputs-length;
+  few_ids = c.loop-k.invariant.few_ids;
+  next_room = c.loop-k.invariant.next_room;
+  outputs_room = c.loop-k.invariant.outputs_room;
+  next_length = simp length-set c.loop-k.invariant.next_length;
+  outputs_length = simp length-set c.loop-k.invariant.outputs_length;
   going = took c.loop-k.invariant.going (omega arith) (sym c.take_go.ensures ∙ c.in-Took.is);
 }
 

@@ -1,18 +1,14 @@
 -- `sheet::read_goes` meets its contract. Assumes nothing.
 use Prim.Native.Nat.{ℕ, ◌<◌, ◌≤◌, ◌-◌, ◌/◌, ◌%◌}
-use mathlib.Core.Path.{◌≡◌, refl, sym, ◌∙◌}
+use mathlib.Core.Path.{◌≡◌}
 use mathlib.Core.List.{List}
-use native.Mathlib.Omega.{arith}
-use native.Mathlib.Nat.{mul-le-mul}
-use lib.ListN.{length, drop, set, length-set}
+use lib.ListN.{length, drop, set}
 use Rattle.model.specs.Limits.{STATES, BOXES, NEXT_ENTRIES, OUTPUT_ENTRIES}
 use Rattle.text.specs.Lines.{lines}
 use Rattle.sheet.specs.declared.Record.{Record}
 use Rattle.sheet.specs.Records.{go_line}
 use Rattle.sheet.specs.Phases.{Steps, steps, goes}
-use Rattle.sheet.proofs.Going.{Going, start, over, stopped, took, said, line_fits}
-use Rattle.sheet.proofs.Good.{go_good}
-use borrow.Author.Rules.{rules}
+use Rattle.sheet.proofs.Going.{Going}
 use Rattle.sheet.proofs.phases.read_goes.Given as goal
 
 abbrev pub due : ℕ → ℕ → ℕ → Steps → List ℕ → Record
@@ -25,11 +21,11 @@ pub record At (t : List ℕ) (from first states actions : ℕ) (ids next₀ outp
   pub some : 0 < actions
   pub states_most : states ≤ STATES
   pub small : total ≤ NEXT_ENTRIES
-  pub few-ids : length ids ≤ BOXES
-  pub next-room : length next₀ ≡ NEXT_ENTRIES
-  pub outputs-room : length outputs₀ ≡ OUTPUT_ENTRIES
-  pub next-length : length next ≡ length next₀
-  pub outputs-length : length outputs ≡ length outputs₀
+  pub few_ids : length ids ≤ BOXES
+  pub next_room : length next₀ ≡ NEXT_ENTRIES
+  pub outputs_room : length outputs₀ ≡ OUTPUT_ENTRIES
+  pub next_length : length next ≡ length next₀
+  pub outputs_length : length outputs ≡ length outputs₀
   pub going : Going (due states actions) kept t (goes states actions (steps next₀ outputs₀) (lines (drop from t)) first) total k (steps next outputs) at n
 
 abbrev pub invariant-loop-k : goal.invariant-loop-k

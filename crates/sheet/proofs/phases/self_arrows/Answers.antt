@@ -1,14 +1,12 @@
 -- `sheet::self_arrows` meets its contract: the first `k` boxes have theirs. Assumes nothing.
-use Prim.Native.Nat.{ℕ, ◌≤◌, ◌-◌}
+use Prim.Native.Nat.{ℕ}
 use mathlib.Core.Path.{◌≡◌, refl, ap, ◌∙◌}
-use mathlib.Core.Bool.{false}
 use native.Mathlib.Omega.{arith}
 use native.Mathlib.Numerals.{add-one}
 use lib.ListN.{length, replicate, length-replicate}
 use Rattle.model.specs.Limits.{BOXES}
 use Rattle.model.specs.Arrows.{drawn, selves}
 use Rattle.model.proofs.Arrows.{selves_length}
-use borrow.Author.Rules.{rules}
 use Rattle.sheet.proofs.phases.self_arrows.Goals as goal
 
 pub loop-k-init : goal.loop-k-init

@@ -1,14 +1,9 @@
 -- `sheet::self_arrows` meets its contract: the first `k` boxes have theirs. Assumes nothing.
-use Prim.Native.Nat.{ℕ, ◌≤◌, ◌-◌}
-use mathlib.Core.Path.{◌≡◌, refl, ap, ◌∙◌}
-use mathlib.Core.Bool.{false}
-use native.Mathlib.Omega.{arith}
-use native.Mathlib.Numerals.{add-one}
-use lib.ListN.{length, replicate, length-replicate}
+use Prim.Native.Nat.{◌≤◌, ◌-◌}
+use mathlib.Core.Path.{◌≡◌}
+use lib.ListN.{replicate}
 use Rattle.model.specs.Limits.{BOXES}
-use Rattle.model.specs.Arrows.{drawn, selves}
-use Rattle.model.proofs.Arrows.{selves_length}
-use borrow.Author.Rules.{rules}
+use Rattle.model.specs.Arrows.{selves}
 use Rattle.sheet.proofs.phases.self_arrows.Given as goal
 
 abbrev pub invariant-loop-k : goal.invariant-loop-k

@@ -4,7 +4,6 @@ use native.Mathlib.Omega.{arith}
 use Rattle.text.proofs.Parts.{end_within, line_found, line_ended}
 use Rattle.sheet.specs.Records.{line_due}
 use Rattle.sheet.proofs.Taking.{none_taken, bad_taken, good_taken}
-use borrow.Author.Rules.{rules}
 use Rattle.sheet.proofs.phases.take_due.Goals as goal
 
 pub slice_bounds-line_due-count : goal.slice_bounds-line_due-count

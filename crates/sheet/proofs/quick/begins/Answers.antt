@@ -1,13 +1,12 @@
 -- `sheet::quick::begins` meets its contract: the bytes passed are the word's. Assumes nothing.
-use Prim.Native.Nat.{ℕ, ◌+◌, ◌-◌, ◌<◌, ◌≤◌}
-use mathlib.Core.Path.{◌≡◌, refl, sym, ◌∙◌}
-use mathlib.Core.List.{List, ◌++◌}
+use Prim.Native.Nat.{ℕ, ◌+◌, ◌<◌}
+use mathlib.Core.Path.{◌≡◌, sym, ◌∙◌}
+use mathlib.Core.List.{List}
 use native.Mathlib.Omega.{arith}
-use lib.ListN.{length, get_or, take, drop}
+use lib.ListN.{length, get_or}
 use Rattle.text.specs.Lines.{before, Ended}
 use Rattle.text.proofs.Parts.{before_hit}
 use Rattle.sheet.proofs.OnePass.{not_last, word_more, word_end}
-use borrow.Author.Rules.{rules}
 use Rattle.sheet.proofs.quick.begins.Invariants.{Passed}
 use Rattle.sheet.proofs.quick.begins.Goals as goal
 

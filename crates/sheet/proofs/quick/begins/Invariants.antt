@@ -1,13 +1,9 @@
 -- `sheet::quick::begins` meets its contract: the bytes passed are the word's. Assumes nothing.
 use Prim.Native.Nat.{ℕ, ◌+◌, ◌-◌, ◌<◌, ◌≤◌}
-use mathlib.Core.Path.{◌≡◌, refl, sym, ◌∙◌}
+use mathlib.Core.Path.{◌≡◌}
 use mathlib.Core.List.{List, ◌++◌}
-use native.Mathlib.Omega.{arith}
-use lib.ListN.{length, get_or, take, drop}
+use lib.ListN.{length, take, drop}
 use Rattle.text.specs.Lines.{before, Ended}
-use Rattle.text.proofs.Parts.{before_hit}
-use Rattle.sheet.proofs.OnePass.{not_last, word_more, word_end}
-use borrow.Author.Rules.{rules}
 use Rattle.sheet.proofs.quick.begins.Given as goal
 
 pub record Passed (t w : List ℕ) (at i : ℕ) : Type 0 where

@@ -1,6 +1,5 @@
 -- `sheet::quick::digits_end` meets its contract. Assumes nothing.
 use Rattle.sheet.proofs.OnePass.{more_none}
-use borrow.Author.Rules.{rules}
 use Rattle.sheet.proofs.quick.digits_end.Goals as goal
 
 pub returns-then-text-at : goal.returns-then-text-at

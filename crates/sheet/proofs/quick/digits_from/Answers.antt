@@ -3,7 +3,6 @@ use mathlib.Core.Path.{refl, sym, ◌∙◌}
 use native.Mathlib.Omega.{arith}
 use Rattle.text.proofs.Digits.{digit_some}
 use Rattle.sheet.proofs.OnePass.{after_digit, more_one, number_one}
-use borrow.Author.Rules.{rules}
 use Rattle.sheet.proofs.quick.digits_from.Goals as goal
 
 pub bounds-text-at-2 : goal.bounds-text-at-2

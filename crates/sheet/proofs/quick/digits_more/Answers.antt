@@ -1,16 +1,7 @@
 -- `sheet::quick::digits_more` meets its contract: what is read from `i` on, after the digits passed, is what is read from `at` on. Assumes nothing.
-use Prim.Native.Nat.{ℕ, ◌-◌, ◌<◌}
 use mathlib.Core.Path.{refl, sym, ◌∙◌}
-use mathlib.Core.List.{List}
-use native.Mathlib.Omega.{arith}
-use lib.ListN.{length}
-use Rattle.text.specs.Lines.{Ended}
 use Rattle.text.proofs.Digits.{digit_some}
-use Rattle.sheet.specs.declared.Digits.{Digits}
-use Rattle.sheet.specs.OnePass.{MoreRead}
 use Rattle.sheet.proofs.OnePass.{after_digit, more_one}
-use borrow.Author.Rules.{rules}
-use Rattle.sheet.proofs.quick.digits_more.Invariants.{Left}
 use Rattle.sheet.proofs.quick.digits_more.Goals as goal
 
 pub loop-v-init : goal.loop-v-init

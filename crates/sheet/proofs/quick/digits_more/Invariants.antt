@@ -1,15 +1,10 @@
 -- `sheet::quick::digits_more` meets its contract: what is read from `i` on, after the digits passed, is what is read from `at` on. Assumes nothing.
 use Prim.Native.Nat.{ℕ, ◌-◌, ◌<◌}
-use mathlib.Core.Path.{refl, sym, ◌∙◌}
 use mathlib.Core.List.{List}
-use native.Mathlib.Omega.{arith}
 use lib.ListN.{length}
 use Rattle.text.specs.Lines.{Ended}
-use Rattle.text.proofs.Digits.{digit_some}
 use Rattle.sheet.specs.declared.Digits.{Digits}
 use Rattle.sheet.specs.OnePass.{MoreRead}
-use Rattle.sheet.proofs.OnePass.{after_digit, more_one}
-use borrow.Author.Rules.{rules}
 use Rattle.sheet.proofs.quick.digits_more.Given as goal
 
 pub record Left (limit : ℕ) (t : List ℕ) (stop at first i value : ℕ) : Type 0 where

@@ -3,7 +3,6 @@ use mathlib.Core.Path.{sym, ◌∙◌}
 use native.Mathlib.Omega.{arith}
 use Rattle.text.proofs.Parts.{end_within, line_found, line_ended}
 use Rattle.sheet.proofs.OnePass.{exact_at}
-use borrow.Author.Rules.{rules}
 use Rattle.sheet.proofs.quick.exact_flow.Goals as goal
 
 pub returns-in_default : goal.returns-in_default

@@ -1,7 +1,6 @@
 -- `sheet::quick::quick_arrow` meets its contract. Assumes nothing.
 use native.Mathlib.Omega.{arith}
 use Rattle.sheet.proofs.OnePass.{goes_on, number_at}
-use borrow.Author.Rules.{rules}
 use Rattle.sheet.proofs.quick.quick_arrow.Goals as goal
 
 pub digits_from-requires-2 : goal.digits_from-requires-2

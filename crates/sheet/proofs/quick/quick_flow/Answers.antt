@@ -5,7 +5,6 @@ use native.Mathlib.Omega.{arith}
 use Rattle.text.specs.Lines.{before}
 use Rattle.sheet.specs.Words as words
 use Rattle.sheet.proofs.OnePass.{goes_on, word_at, quick_one, quick_two}
-use borrow.Author.Rules.{rules}
 use Rattle.sheet.proofs.quick.quick_flow.Goals as goal
 
 pub begins-requires : goal.begins-requires

@@ -5,7 +5,6 @@ use native.Mathlib.Omega.{arith}
 use Rattle.text.specs.Lines.{before}
 use Rattle.sheet.specs.Words as words
 use Rattle.sheet.proofs.OnePass.{goes_on, number_at, word_at, ends, onward, line_of, quick_view}
-use borrow.Author.Rules.{rules}
 use Rattle.sheet.proofs.quick.quick_view.Goals as goal
 
 pub begins-requires : goal.begins-requires

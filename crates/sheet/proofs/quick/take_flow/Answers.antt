@@ -1,6 +1,5 @@
 -- `sheet::quick::take_flow` meets its contract. Assumes nothing.
 use Rattle.sheet.proofs.OnePass.{quick_flow_taken}
-use borrow.Author.Rules.{rules}
 use Rattle.sheet.proofs.quick.take_flow.Goals as goal
 
 pub returns-in_default : goal.returns-in_default

@@ -1,6 +1,5 @@
 -- `sheet::quick::take_go` meets its contract. Assumes nothing.
 use Rattle.sheet.proofs.OnePass.{quickly_taken}
-use borrow.Author.Rules.{rules}
 use Rattle.sheet.proofs.quick.take_go.Goals as goal
 
 pub returns-in_default : goal.returns-in_default

@@ -1,6 +1,5 @@
 -- `sheet::quick::take_view` meets its contract. Assumes nothing.
 use Rattle.sheet.proofs.OnePass.{quickly_taken}
-use borrow.Author.Rules.{rules}
 use Rattle.sheet.proofs.quick.take_view.Goals as goal
 
 pub returns-in_default : goal.returns-in_default

@@ -1,14 +1,9 @@
 -- `views::guards::alone` meets its contract. Assumes nothing.
 -- Here `c3` is the place three before `c`.
-use mathlib.Core.Path.{sym, ◌∙◌}
 use Prim.Native.Nat.{◌≤◌, ◌-◌}
-use native.Mathlib.Omega.{arith}
 use lib.Dec.{eqb}
-use borrow.Author.Tests.{eq-eqb, ne_eqb}
 use Rattle.laws.specs.Range.{Held}
-use Rattle.laws.proofs.Range.{sweep-every, held_more}
-use Rattle.laws.proofs.Loops.{every_yes, every_no}
-use Rattle.views.specs.Guards.{low_at, alone_in}
+use Rattle.views.specs.Guards.{low_at}
 use Rattle.views.proofs.guards.alone.Given as goal
 
 abbrev pub invariant-states : goal.invariant-states

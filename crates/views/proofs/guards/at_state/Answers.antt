@@ -4,7 +4,6 @@ use native.Mathlib.Nat.{le_refl}
 use native.Mathlib.Omega.{arith}
 use Rattle.laws.proofs.Cells.{cell}
 use Rattle.model.specs.Limits.{STATES, ACTIONS}
-use borrow.Author.Rules.{rules}
 use Rattle.views.proofs.guards.at_state.Goals as goal
 
 pub overflow_mul-s : goal.overflow_mul-s

@@ -1,9 +1,9 @@
 -- `views::guards::fill_row` meets its contract. Assumes nothing.
 -- Here `c3` is the place three before `c`.
-use Prim.Native.Nat.{◌≤◌, ◌-◌, ℕ}
+use Prim.Native.Nat.{ℕ}
 use native.Mathlib.Omega.{arith}
 use lib.ListN.{length-replicate}
-use Rattle.views.specs.Guards.{SLOTS, Slots, Others, Filled}
+use Rattle.views.specs.Guards.{SLOTS}
 use Rattle.views.proofs.Lows.{slots_none, others_none, filled_more, filled_row}
 use Rattle.views.proofs.guards.fill_row.Goals as goal
 
@@ -33,14 +33,13 @@ pub states-smaller : goal.states-smaller
 states-smaller c = omega arith
 
 pub states-preserved : goal.states-preserved
-states-preserved c =
-    (
-      omega arith,
-      c.first_alike-r.ensures.slots_2,
-      c.first_alike-r.ensures.others_2,
-      filled_more c.states.invariant.3 c.requires.states_bound.0 c.requires.states_bound.1 c.states-test.true
-          c.first_alike-r.ensures.least c.narrow.ensures,
-    )
+states-preserved c = (
+  omega arith,
+  c.first_alike-r.ensures.slots_2,
+  c.first_alike-r.ensures.others_2,
+  filled_more c.states.invariant.3 c.requires.states_bound.0 c.requires.states_bound.1 c.states-test.true
+      c.first_alike-r.ensures.least c.narrow.ensures,
+)
 
 pub returns : goal.returns
 returns c = filled_row c.states.invariant.3 c.states-test.false

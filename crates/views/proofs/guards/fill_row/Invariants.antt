@@ -1,10 +1,7 @@
 -- `views::guards::fill_row` meets its contract. Assumes nothing.
 -- Here `c3` is the place three before `c`.
-use Prim.Native.Nat.{◌≤◌, ◌-◌, ℕ}
-use native.Mathlib.Omega.{arith}
-use lib.ListN.{length-replicate}
-use Rattle.views.specs.Guards.{SLOTS, Slots, Others, Filled}
-use Rattle.views.proofs.Lows.{slots_none, others_none, filled_more, filled_row}
+use Prim.Native.Nat.{◌≤◌, ◌-◌}
+use Rattle.views.specs.Guards.{Slots, Others, Filled}
 use Rattle.views.proofs.guards.fill_row.Given as goal
 
 abbrev pub invariant-states : goal.invariant-states

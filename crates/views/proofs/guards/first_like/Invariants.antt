@@ -1,8 +1,7 @@
 -- `views::guards::first_like` meets its contract. Assumes nothing.
 -- Here `c3` is the place three before `c`.
 use Prim.Native.Nat.{◌≤◌, ◌-◌}
-use native.Mathlib.Omega.{arith}
-use Rattle.views.proofs.Lows.{Unlike, unlike_none, unlike_more, least_found, least_self}
+use Rattle.views.proofs.Lows.{Unlike}
 use Rattle.views.proofs.guards.first_like.Given as goal
 
 abbrev pub invariant-earlier : goal.invariant-earlier

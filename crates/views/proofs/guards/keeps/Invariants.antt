@@ -1,11 +1,7 @@
 -- `views::guards::keeps` meets its contract. Assumes nothing.
 -- Here `c3` is the place three before `c`.
 use Prim.Native.Nat.{◌≤◌, ◌-◌}
-use native.Mathlib.Omega.{arith}
-use mathlib.Core.Path.{refl}
-use Rattle.laws.proofs.Tests.{not_both}
 use Rattle.views.specs.Guards.{Keeps}
-use Rattle.views.proofs.Calm.{next_small, keeps_none, keeps_more, keeps_all}
 use Rattle.views.proofs.guards.keeps.Given as goal
 
 abbrev pub invariant-states : goal.invariant-states

@@ -1,7 +1,5 @@
 -- `views::guards::lows` meets its contract. Assumes nothing.
-use Prim.Native.Nat.{◌≤◌, ◌-◌}
 use native.Mathlib.Omega.{arith}
-use Rattle.views.specs.Guards.{Filled}
 use Rattle.views.proofs.Lows.{filled_none, filled_all}
 use Rattle.views.proofs.guards.lows.Goals as goal
 

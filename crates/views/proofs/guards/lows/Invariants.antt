@@ -1,8 +1,6 @@
 -- `views::guards::lows` meets its contract. Assumes nothing.
 use Prim.Native.Nat.{◌≤◌, ◌-◌}
-use native.Mathlib.Omega.{arith}
 use Rattle.views.specs.Guards.{Filled}
-use Rattle.views.proofs.Lows.{filled_none, filled_all}
 use Rattle.views.proofs.guards.lows.Given as goal
 
 abbrev pub invariant-boxes : goal.invariant-boxes

@@ -1,10 +1,8 @@
 -- `views::guards::note_idle` meets its contract. Assumes nothing.
 -- Here `c3` is the place three before `c`.
 use Prim.Native.Nat.{◌≤◌, ◌-◌}
-use native.Mathlib.Omega.{arith}
 use Rattle.model.specs.Limits.{BOXES}
 use Rattle.views.specs.Guards.{Kept}
-use Rattle.views.proofs.Calm.{idle_keeps, kept_more}
 use Rattle.views.proofs.guards.note_idle.Given as goal
 
 abbrev pub invariant-boxes : goal.invariant-boxes

@@ -4,7 +4,6 @@ use mathlib.Core.Path.{refl}
 use native.Mathlib.Omega.{arith}
 use Rattle.laws.proofs.Tests.{not_both, told}
 use Rattle.views.proofs.Calm.{kept_more}
-use borrow.Author.Rules.{rules}
 use Rattle.views.proofs.guards.note_kept.Goals as goal
 
 pub returns-then-was_kept : goal.returns-then-was_kept

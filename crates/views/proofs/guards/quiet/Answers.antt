@@ -1,15 +1,11 @@
 -- `views::guards::quiet` meets its contract. Assumes nothing.
 -- Here `c3` is the place three before `c`.
-use Prim.Native.Nat.{◌≤◌, ◌-◌, ◌+◌, ◌*◌}
 use native.Mathlib.Omega.{arith}
 use mathlib.Core.Path.{sym, ◌∙◌}
-use lib.Dec.{eqb}
 use borrow.Author.Tests.{eq-eqb, ne_eqb}
-use Rattle.laws.specs.Range.{Held}
 use Rattle.laws.proofs.Range.{sweep-every, held_more}
 use Rattle.laws.proofs.Loops.{every_yes, every_no}
-use lib.ListN.{get_or}
-use Rattle.views.specs.Guards.{low_at, quiet_in}
+use Rattle.views.specs.Guards.{quiet_in}
 use Rattle.views.proofs.Calm.{low_upto}
 use Rattle.views.proofs.guards.quiet.Goals as goal
 
@@ -40,12 +36,11 @@ pub states-smaller : goal.states-smaller
 states-smaller c = omega arith
 
 pub states-preserved : goal.states-preserved
-states-preserved c =
-    (
-      omega arith,
-      held_more _ _ c.states.invariant.1 (eq-eqb _ _ (sym c.at_state.ensures ∙ c.if-at_state.false ∙ (rw c.low_of-t.ensures at
-          c.at_state-in-states.ensures))),
-    )
+states-preserved c = (
+  omega arith,
+  held_more _ _ c.states.invariant.1 (eq-eqb _ _ (sym c.at_state.ensures ∙ c.if-at_state.false ∙ (rw c.low_of-t.ensures at
+      c.at_state-in-states.ensures))),
+)
 
 pub returns : goal.returns
 unfolding quiet_in

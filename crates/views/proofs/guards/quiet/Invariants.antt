@@ -1,16 +1,10 @@
 -- `views::guards::quiet` meets its contract. Assumes nothing.
 -- Here `c3` is the place three before `c`.
 use Prim.Native.Nat.{◌≤◌, ◌-◌, ◌+◌, ◌*◌}
-use native.Mathlib.Omega.{arith}
-use mathlib.Core.Path.{sym, ◌∙◌}
 use lib.Dec.{eqb}
-use borrow.Author.Tests.{eq-eqb, ne_eqb}
 use Rattle.laws.specs.Range.{Held}
-use Rattle.laws.proofs.Range.{sweep-every, held_more}
-use Rattle.laws.proofs.Loops.{every_yes, every_no}
 use lib.ListN.{get_or}
-use Rattle.views.specs.Guards.{low_at, quiet_in}
-use Rattle.views.proofs.Calm.{low_upto}
+use Rattle.views.specs.Guards.{low_at}
 use Rattle.views.proofs.guards.quiet.Given as goal
 
 abbrev pub invariant-states : goal.invariant-states

@@ -1,5 +1,4 @@
 -- `views::guards::sends` meets its contract. Assumes nothing.
-use borrow.Author.Rules.{rules}
 use Rattle.views.proofs.guards.sends.Goals as goal
 
 pub returns : goal.returns

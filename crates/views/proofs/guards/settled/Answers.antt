@@ -3,7 +3,6 @@
 use Rattle.laws.proofs.Tests.{told}
 use Rattle.views.proofs.Calm.{keeps_calm, strong_calm, alone_owner}
 use native.Mathlib.Omega.{arith}
-use borrow.Author.Rules.{rules}
 use Rattle.views.proofs.guards.settled.Goals as goal
 
 pub was_kept-requires : goal.was_kept-requires

@@ -3,7 +3,6 @@
 use Rattle.laws.proofs.Tests.{told}
 use mathlib.Core.Path.{sym}
 use Rattle.views.proofs.Calm.{alone_quiet}
-use borrow.Author.Rules.{rules}
 use Rattle.views.proofs.guards.silent.Goals as goal
 
 pub returns-then-is_alone : goal.returns-then-is_alone

@@ -2,7 +2,6 @@
 use mathlib.Core.Path.{refl}
 use native.Mathlib.Omega.{arith}
 use Rattle.views.specs.Guards.{slot_of}
-use borrow.Author.Rules.{rules}
 use Rattle.views.proofs.guards.slot_of.Goals as goal
 
 pub returns : goal.returns

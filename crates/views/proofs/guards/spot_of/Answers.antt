@@ -2,7 +2,6 @@
 -- Here `c3` is the place three before `c`.
 use native.Mathlib.Omega.{arith}
 use Rattle.views.proofs.Calm.{low_small}
-use borrow.Author.Rules.{rules}
 use Rattle.views.proofs.guards.spot_of.Goals as goal
 
 pub overflow_mul-result : goal.overflow_mul-result

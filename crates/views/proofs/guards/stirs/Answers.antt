@@ -1,10 +1,8 @@
 -- `views::guards::stirs` meets its contract. Assumes nothing.
 -- Here `c3` is the place three before `c`.
-use Prim.Native.Nat.{◌≤◌, ◌-◌}
 use native.Mathlib.Omega.{arith}
 use mathlib.Core.Path.{refl}
 use Rattle.laws.proofs.Tests.{not_both}
-use Rattle.views.specs.Guards.{Idle}
 use Rattle.views.proofs.Calm.{idle_none, idle_more, idle_all}
 use Rattle.views.proofs.guards.stirs.Goals as goal
 

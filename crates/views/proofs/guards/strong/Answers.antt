@@ -1,14 +1,11 @@
 -- `views::guards::strong` meets its contract. Assumes nothing.
 -- Here `c3` is the place three before `c`.
-use Prim.Native.Nat.{◌≤◌, ◌-◌}
 use native.Mathlib.Omega.{arith}
 use mathlib.Core.Path.{sym, ap, ◌∙◌}
-use lib.Dec.{eqb}
 use borrow.Author.Tests.{eq-eqb, ne_eqb}
-use Rattle.laws.specs.Range.{Held}
 use Rattle.laws.proofs.Range.{sweep-every, held_more}
 use Rattle.laws.proofs.Loops.{every_yes, every_no}
-use Rattle.views.specs.Guards.{low_at, sent, strong_in}
+use Rattle.views.specs.Guards.{sent, strong_in}
 use Rattle.views.proofs.Calm.{next_small, low_upto}
 use Rattle.views.proofs.guards.strong.Goals as goal
 
@@ -57,12 +54,11 @@ pub states-smaller : goal.states-smaller
 states-smaller c = omega arith
 
 pub states-preserved : goal.states-preserved
-states-preserved c =
-    (
-      omega arith,
-      held_more _ _ c.states.invariant.1 (eq-eqb _ _ (sym c.sends.ensures ∙ c.if-sends.false ∙ (rw c.low_of-t.ensures at
-          c.sends-in-states.ensures))),
-    )
+states-preserved c = (
+  omega arith,
+  held_more _ _ c.states.invariant.1 (eq-eqb _ _ (sym c.sends.ensures ∙ c.if-sends.false ∙ (rw c.low_of-t.ensures at
+      c.sends-in-states.ensures))),
+)
 
 pub returns : goal.returns
 unfolding strong_in

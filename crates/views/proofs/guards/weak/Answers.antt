@@ -1,15 +1,12 @@
 -- `views::guards::weak` meets its contract. Assumes nothing.
 -- Here `c3` is the place three before `c`.
-use Prim.Native.Nat.{◌≤◌, ◌-◌}
 use native.Mathlib.Omega.{arith}
-use borrow.Author.Rules.{rules}
-use mathlib.Core.Path.{◌≡◌, refl}
+use mathlib.Core.Path.{refl}
 use native.Mathlib.Nat.{lt_trans}
-use lib.ListN.{length, length-set}
+use lib.ListN.{length-set}
 use Rattle.laws.proofs.Tests.{not_both}
-use Rattle.views.specs.Guards.{SPOTS}
 use Rattle.views.proofs.Calm.{next_small}
-use Rattle.views.proofs.Linked.{WeakTo, weak_none, weak_keep, weak_put, weak_all}
+use Rattle.views.proofs.Linked.{weak_none, weak_keep, weak_put, weak_all}
 use Rattle.views.proofs.guards.weak.Goals as goal
 
 pub states-init : goal.states-init
@@ -51,13 +48,12 @@ pub states-smaller-then-linked : goal.states-smaller-then-linked
 states-smaller-then-linked c = omega arith
 
 pub states-preserved-then-linked : goal.states-preserved-then-linked
-states-preserved-then-linked c =
-    (
-      omega arith,
-      c.states.invariant.1,
-      weak_keep c.states.invariant.2 c.spot_of-i.ensures.0 c.wide-t.ensures c.linked.ensures
-          c.if-linked.true c.sends.ensures c.sends-then-linked.ensures c.if-sends.false,
-    )
+states-preserved-then-linked c = (
+  omega arith,
+  c.states.invariant.1,
+  weak_keep c.states.invariant.2 c.spot_of-i.ensures.0 c.wide-t.ensures c.linked.ensures
+      c.if-linked.true c.sends.ensures c.sends-then-linked.ensures c.if-sends.false,
+)
 
 pub narrow-requires : goal.narrow-requires
 narrow-requires c =
@@ -74,13 +70,12 @@ pub states-smaller : goal.states-smaller
 states-smaller c = omega arith
 
 pub states-preserved : goal.states-preserved
-states-preserved c =
-    (
-      omega arith,
-      simp length-set c.states.invariant.1,
-      weak_put c.states.invariant.2 c.spot_of-i.ensures.0 (omega
-          (arith, c.spot_of-i.ensures.1, c.states.invariant.1)) c.wide-t.ensures c.linked.ensures c.if-linked.false c.narrow.ensures,
-    )
+states-preserved c = (
+  omega arith,
+  simp length-set c.states.invariant.1,
+  weak_put c.states.invariant.2 c.spot_of-i.ensures.0 (omega
+      (arith, c.spot_of-i.ensures.1, c.states.invariant.1)) c.wide-t.ensures c.linked.ensures c.if-linked.false c.narrow.ensures,
+)
 
 pub returns : goal.returns
 returns c = record { table_len_2 = c.states.invariant.1; calm = λ e. weak_all c.states.invariant.2 c.states-test.false }

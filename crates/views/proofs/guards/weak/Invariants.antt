@@ -1,15 +1,10 @@
 -- `views::guards::weak` meets its contract. Assumes nothing.
 -- Here `c3` is the place three before `c`.
 use Prim.Native.Nat.{◌≤◌, ◌-◌}
-use native.Mathlib.Omega.{arith}
-use borrow.Author.Rules.{rules}
-use mathlib.Core.Path.{◌≡◌, refl}
-use native.Mathlib.Nat.{lt_trans}
-use lib.ListN.{length, length-set}
-use Rattle.laws.proofs.Tests.{not_both}
+use mathlib.Core.Path.{◌≡◌}
+use lib.ListN.{length}
 use Rattle.views.specs.Guards.{SPOTS}
-use Rattle.views.proofs.Calm.{next_small}
-use Rattle.views.proofs.Linked.{WeakTo, weak_none, weak_keep, weak_put, weak_all}
+use Rattle.views.proofs.Linked.{WeakTo}
 use Rattle.views.proofs.guards.weak.Given as goal
 
 abbrev pub invariant-states : goal.invariant-states

@@ -1,10 +1,8 @@
 -- `zarpalume::lines::put_depths` meets its contract. Assumes nothing.
 use mathlib.Core.Path.{◌≡◌}
-use Prim.Native.Nat.{◌≤◌, ◌-◌, ◌*◌}
 use native.Mathlib.Omega.{arith}
-use borrow.Author.Rules.{rules}
 use Rattle.zarpalume.specs.Lines.{depth_lines}
-use Rattle.zarpalume.proofs.Writing.{Growing, growing_none, depth_more}
+use Rattle.zarpalume.proofs.Writing.{growing_none, depth_more}
 use Rattle.zarpalume.proofs.lines.put_depths.Goals as goal
 
 pub boxes-init : goal.boxes-init

@@ -1,10 +1,8 @@
 -- `zarpalume::lines::put_needs` meets its contract. Assumes nothing.
 use mathlib.Core.Path.{◌≡◌}
-use Prim.Native.Nat.{◌≤◌, ◌-◌, ◌*◌}
 use native.Mathlib.Omega.{arith}
-use borrow.Author.Rules.{rules}
 use Rattle.zarpalume.specs.Lines.{need_lines}
-use Rattle.zarpalume.proofs.Writing.{Growing, growing_none, need_more}
+use Rattle.zarpalume.proofs.Writing.{growing_none, need_more}
 use Rattle.zarpalume.proofs.lines.put_needs.Goals as goal
 
 pub pairs-init : goal.pairs-init
@@ -13,8 +11,7 @@ pairs-init c = (omega arith, growing_none _)
 
 pub pairs-preserved : goal.pairs-preserved
 pairs-preserved c =
-    let g = c.pairs in
-    (
+    let g = c.pairs in (
       omega arith,
       need_more _ _ _ _ _ g.invariant.1 (omega arith) c.put_pair-at.ensures.0 c.put_pair-at.ensures.1
           c.at.ensures c.id-source.ensures c.at-in-pairs.ensures c.id-target.ensures,

@@ -1,10 +1,7 @@
 -- `zarpalume::lines::put_needs` meets its contract. Assumes nothing.
-use mathlib.Core.Path.{◌≡◌}
 use Prim.Native.Nat.{◌≤◌, ◌-◌, ◌*◌}
-use native.Mathlib.Omega.{arith}
-use borrow.Author.Rules.{rules}
 use Rattle.zarpalume.specs.Lines.{need_lines}
-use Rattle.zarpalume.proofs.Writing.{Growing, growing_none, need_more}
+use Rattle.zarpalume.proofs.Writing.{Growing}
 use Rattle.zarpalume.proofs.lines.put_needs.Given as goal
 
 abbrev pub invariant-pairs : goal.invariant-pairs

@@ -1,5 +1,4 @@
 -- `zarpalume::lines::put_respect` meets its contract. Assumes nothing.
-use borrow.Author.Rules.{rules}
 use Rattle.text.proofs.Buffer.{lent}
 use native.Mathlib.Omega.{arith}
 use Rattle.zarpalume.proofs.lines.put_respect.Goals as goal

@@ -1,7 +1,5 @@
 -- `zarpalume::lines::put_views` meets its contract. Assumes nothing.
 use native.Mathlib.Omega.{arith}
-use borrow.Author.Rules.{rules}
-use Rattle.views.proofs.Told.{told_accepted}
 use Rattle.zarpalume.proofs.ViewsLine.{line_accepted, line_output, line_respect, line_step, line_refused, small_as}
 use Rattle.zarpalume.proofs.lines.put_views.Goals as goal
 
