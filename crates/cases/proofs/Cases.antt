@@ -26,7 +26,7 @@ use Rattle.cases.specs.Cases.{Case, Claim, judged, needed, depths, reach, purged
 use Rattle.cases.specs.Meets.{Holds, AllHold, AllMeet, machine}
 use Rattle.cases.proofs.Same.{same_list}
 use Rattle.cases.proofs.Computed.{good, judged_right, judged_right_lem, purged_right, purged_right_lem}
-use Rattle.cases.proofs.Needs as goal
+use Rattle.cases.proofs.Needs as needs
 use Rattle.cases.proofs.Needs.{Certificate, reach_right, depths_right, needed_right, depths_listed, reach_counted, needed_right_lem, depths_right_lem, reach_right_lem, leads, ids_right, inside, reaches}
 
 -- a claim passes its test
@@ -101,7 +101,7 @@ all_meet (c ∷ cs) [] h = not_both h refl
 all_meet (c ∷ cs) (k ∷ ks) h = let b = both_true _ _ h in (meets c k b.0, all_meet cs ks b.1)
 
 computed : all_hold cases certificates ≡ true
-unfolding all_hold holds all_right right good judged_right purged_right reach_right depths_right needed_right depths_listed reach_counted goal.names_actions leads ids_right same_list both either brings without choose when or_else first_of range.every range.some range.count range.first range.tabulate any elem run purge keeps sources leaks moves alike_too tears first_output first_respect first_step searches.judged sees_alike alike stable needed_in arrows_from arrows_upto sized sizes_fit owners_fit machine_fits next_fits ids_fit row_fits arrows_fit selves_fit drawing_fits machine_table_fits model_fits model_table_fits column by_state by_box selves draws has including names_actions asked kept_of flat
+unfolding all_hold holds all_right right good judged_right purged_right reach_right depths_right needed_right depths_listed reach_counted needs.names_actions leads ids_right same_list both either brings without choose when or_else first_of range.every range.some range.count range.first range.tabulate any elem run purge keeps sources leaks moves alike_too tears first_output first_respect first_step searches.judged sees_alike alike stable needed_in arrows_from arrows_upto sized sizes_fit owners_fit machine_fits next_fits ids_fit row_fits arrows_fit selves_fit drawing_fits machine_table_fits model_fits model_table_fits column by_state by_box selves draws has including names_actions asked kept_of flat
 computed = refl
 
 pub cases_hold : AllMeet cases

@@ -272,8 +272,8 @@ given_means t h =
 
 -- ---- what it means, entry by entry
 -- the number of a row and a column tells both
-row_of : (w r c : ℕ) → c < w → (r * w + c) / w ≡ r
-row_of w r c h = mul-add-div_right (omega arith) r c ∙ (let z = div-eq_of_lt h in omega arith)
+row_of_lem : (w r c : ℕ) → c < w → (r * w + c) / w ≡ r
+row_of_lem w r c h = mul-add-div_right (omega arith) r c ∙ (let z = div-eq_of_lt h in omega arith)
 
 column_of_lem : (w r c : ℕ) → c < w → (r * w + c) % w ≡ c
 column_of_lem w r c h = mul-add-mod_self_right r w c ∙ mod-eq_of_lt h
@@ -282,10 +282,10 @@ table_at : (n : ℕ) (xs : List ℕ) (i : ℕ) → i < length xs → get_or (tab
 table_at n xs i h = get_or-append xs (zeros (n - length xs)) 0 i h
 
 pub go_says_lem : (actions s a : ℕ) (x : Step) → a < actions → paper.go_row actions (s * actions + a) x ≡ words.go ∷ decimal s ∷ decimal a ∷ decimal x.next ∷ decimal x.output ∷ []
-go_says_lem actions s a x h = ap₂ (λ i j. words.go ∷ decimal i ∷ decimal j ∷ decimal x.next ∷ decimal x.output ∷ []) (row_of actions s a h) (column_of_lem actions s a h)
+go_says_lem actions s a x h = ap₂ (λ i j. words.go ∷ decimal i ∷ decimal j ∷ decimal x.next ∷ decimal x.output ∷ []) (row_of_lem actions s a h) (column_of_lem actions s a h)
 
 pub view_says_lem : (ids : List ℕ) (states u s c : ℕ) → s < states → paper.view_row ids states (u * states + s) c ≡ words.view ∷ decimal (get_or ids u 0) ∷ decimal s ∷ decimal c ∷ []
-view_says_lem ids states u s c h = ap₂ (λ i j. words.view ∷ decimal (get_or ids i 0) ∷ decimal j ∷ decimal c ∷ []) (row_of states u s h) (column_of_lem states u s h)
+view_says_lem ids states u s c h = ap₂ (λ i j. words.view ∷ decimal (get_or ids i 0) ∷ decimal j ∷ decimal c ∷ []) (row_of_lem states u s h) (column_of_lem states u s h)
 
 module _ (p : Paper) (g : Good p) where
   pub id_at_lem : (u : ℕ) → u < length p.boxes → get_or (parts_of p).ids u 0 ≡ get_or (ids_of p.boxes) u 0

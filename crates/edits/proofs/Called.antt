@@ -24,7 +24,7 @@ use Rattle.edits.specs.Private.{Small, Between, Doable, Undoable, plan_of}
 use Rattle.edits.specs.declared.BoxRecord.{BoxRecord}
 use Rattle.edits.specs.declared.Entry.{Entry}
 use Rattle.edits.specs.declared.Plan.{Plan}
-use Rattle.edits.proofs.Asked.{Kind, asked_is, add, delete, draw, erase, undo as is-undo, drop as is-drop, unknown, asked_undo, asked_drop}
+use Rattle.edits.proofs.Asked.{Kind, asked_is, add, delete, draw, erase, undo as is_undo, drop as is_drop, unknown, asked_undo, asked_drop}
 use Rattle.edits.proofs.Words.{kept_none}
 use Rattle.edits.proofs.Found.{boxes_most}
 use Rattle.edits.proofs.Fine.{Listed, sound}
@@ -141,6 +141,6 @@ module _ (l : List BoxRecord) (c : ℕ) (w : List ℕ) (x : Edited) (ll : length
       go q (delete y) = refl
       go q (draw y) = refl
       go q (erase y) = refl
-      go q (is-undo y) = absurd (nu y)
-      go q (is-drop y) = absurd (nd y)
+      go q (is_undo y) = absurd (nu y)
+      go q (is_drop y) = absurd (nd y)
       go q (unknown s t u v) = refl

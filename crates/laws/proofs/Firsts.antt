@@ -29,5 +29,5 @@ told_no b e q = ap not (sym e ∙ q)
 pub told_yes : {f : Bool} (b : Bool) → f ≡ b → f ≡ true → not (not b) ≡ true
 told_yes b e q = ap (λ t. not (not t)) (sym e ∙ q)
 
--- what `search` is handed at the needs of a loop that looks for a number
+-- what `search` is handed at the goals of a loop that looks for a number
 pub ruleset seek = (held_none, held_more, first_met, first_missed, some_yes, some_no, told, told_no, told_yes, arith)

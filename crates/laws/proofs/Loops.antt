@@ -9,7 +9,7 @@ use borrow.Author.Tests.{not-true, lt-ltb, le-ltb, le-leb, lt-leb, eq-eqb, ne_eq
 use Rattle.laws.specs.Choice.{both, brings}
 use Rattle.laws.specs.Range.{every, some, Held}
 use Rattle.laws.proofs.Tests.{told, both_of, both_no}
-use Rattle.laws.proofs.Range.{every_held, every_not, some_of, some_none, sweep-every}
+use Rattle.laws.proofs.Range.{every_held, every_not, some_of, some_none, sweep_every}
 
 -- the loop has come to the end
 pub every_yes : (n : ℕ) {i : ℕ} (p : ℕ → Bool) → n ≤ i → Held i p → true ≡ every n p
@@ -58,6 +58,6 @@ pub brings_off : {a : Bool} (b : Bool) → a ≡ false → true ≡ brings a b
 unfolding brings
 brings_off b e = rw e
 
--- what `search` is handed at the needs of such a function
+-- what `search` is handed at the goals of such a function
 pub ruleset each =
-    (sweep-every, every_yes, every_no, told, read_lt, read_ge, read_le, read_gt, read_other, read_same, both_of, both_no, both_not)
+    (sweep_every, every_yes, every_no, told, read_lt, read_ge, read_le, read_gt, read_other, read_same, both_of, both_no, both_not)

@@ -64,8 +64,8 @@ held_more p i h e = record { each = below_more (λ (k : ℕ). p k ≡ true) i h.
 pub every_held : (n : ℕ) {i : ℕ} (p : ℕ → Bool) → n ≤ i → Held i p → every n p ≡ true
 every_held n p l h = every_of n p (λ k lk. h.each k (omega arith))
 
--- what `search` is handed at the needs of a loop that tests every number
-pub ruleset sweep-every = (held_none, held_more, every_held, arith)
+-- what `search` is handed at the goals of a loop that tests every number
+pub ruleset sweep_every = (held_none, held_more, every_held, arith)
 
 -- ---- some
 pub some_at : (n : ℕ) (p : ℕ → Bool) → some n p ≡ true → (i : ℕ) × (i < n) × (p i ≡ true)

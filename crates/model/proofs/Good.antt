@@ -92,9 +92,9 @@ row_in boxes v row e u d =
     none : boxes ≤ v → ⊥
     none l = let k = in_row 0 (ltb-true row 1 (sym (rw (le-ltb v boxes l)) ∙ e)) in omega arith
 
-row_of : (boxes v row : ℕ) → ((u : ℕ) → has row u ≡ true → (v < boxes) × (u < boxes)) → row_fits boxes v row ≡ true
+row_of_lem : (boxes v row : ℕ) → ((u : ℕ) → has row u ≡ true → (v < boxes) × (u < boxes)) → row_fits boxes v row ≡ true
 unfolding row_fits choose
-row_of boxes v row h =
+row_of_lem boxes v row h =
     by_order v boxes
     (λ l. rw (lt-ltb v boxes l) (lt-ltb row (2 ^ boxes) (small_of boxes row (λ u d. (h u d).1))))
     (λ l. rw (le-ltb v boxes (omega arith)) (lt-ltb row 1 (none (omega arith))))
@@ -117,7 +117,7 @@ drawing_good m = (
   λ g. both_of
       (every_of _ _ (λ u l. both_of (le-leb _ _ (g.id_small u l)) (every_of _ _ (λ v k. (unlike_is _ _).1 (g.id_once u v l k)))))
       (both_of
-      (every_of _ _ (λ v lv. row_of m.machine.sizes.boxes v _ (λ u d. g.arrow_in v u lv d)))
+      (every_of _ _ (λ v lv. row_of_lem m.machine.sizes.boxes v _ (λ u d. g.arrow_in v u lv d)))
       (every_of _ _ (λ u l. g.self u l))),
 )
 

@@ -33,9 +33,9 @@ pub record Then {S T : Type 0} (g : Got S) (f : S → List (List ℕ) → ℕ �
   pub is : g ≡ got what left number
   pub then : f what left number ≡ got x ls n
 
-pub first_of : {S T : Type 0} (g : Got S) {f : S → List (List ℕ) → ℕ → Got T} {x : T} {ls : List (List ℕ)} {n : ℕ} → on_got g f ≡ got x ls n → Then g f x ls n
-first_of (got s ls n) h = record { what = s; left = ls; number = n; is = refl; then = h }
-first_of (refused e n) h = no_got h
+pub first_of_lem : {S T : Type 0} (g : Got S) {f : S → List (List ℕ) → ℕ → Got T} {x : T} {ls : List (List ℕ)} {n : ℕ} → on_got g f ≡ got x ls n → Then g f x ls n
+first_of_lem (got s ls n) h = record { what = s; left = ls; number = n; is = refl; then = h }
+first_of_lem (refused e n) h = no_got h
 
 -- each line of a good run is good
 pub record Each {S : Type 0} (line : ℕ → S → List ℕ → Record) (k : ℕ) (l : List ℕ) : Type 0 where

@@ -28,7 +28,7 @@ use Rattle.sheet.proofs.Fields.{rest_from}
 use Rattle.sheet.proofs.Good.{sheet_good, Boxed, box_good}
 use Rattle.sheet.proofs.Places.{line_there}
 use Rattle.sheet.proofs.Places as places
-use Rattle.sheet.proofs.Inside.{first_of, each_line, inside}
+use Rattle.sheet.proofs.Inside.{first_of_lem, each_line, inside}
 
 abbrev pub here : ℕ → ℕ → Place
 here start end = record { start = start; end = end }
@@ -69,7 +69,7 @@ pub box_there : (t : List ℕ) {z : Sizes} {p : Parts} → sheet_text t ≡ mode
 unfolding parts
 box_there t {z} {p} h position g =
     let i = inside t h in
-    let r = first_of (boxes z.boxes i.others 2) i.body in
+    let r = first_of_lem (boxes z.boxes i.others 2) i.body in
     let w = each_line (λ k ids. box_line (take k ids)) (λ k ids id _ _ _. set ids k id) z.boxes 0 _ i.others 2 r.is position g in
     let l : length (lines t) ≡ suc (length i.others) = ap length i.lines_are in
     let n : position + 1 < length (lines t) = omega (arith, w.1) in

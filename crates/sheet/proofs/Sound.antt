@@ -25,7 +25,7 @@ use Rattle.sheet.specs.Records.{position, known, box_line, act_line, go_line, vi
 use Rattle.sheet.specs.Phases.{got, refused, boxes, acts, goes, Steps, steps, flows, views}
 use Rattle.sheet.specs.Reading.{zeros, Drawn, drawn_as, drawing, Parts, parts_as, parts, model, sheet_text}
 use Rattle.sheet.proofs.Good.{sheet_good, box_good, act_good, go_good, view_good, flow_good}
-use Rattle.sheet.proofs.Inside.{first_of, kept, inside, no_got}
+use Rattle.sheet.proofs.Inside.{first_of_lem, kept, inside, no_got}
 use Rattle.sheet.proofs.First.{zeros_length}
 
 -- the first k entries of a table keep to a rule, and the others are 0
@@ -176,9 +176,9 @@ drawn_good : (states actions : ℕ) (ids : List ℕ) (ls : List (List ℕ)) (n :
     → drawing states actions ids (steps (zeros NEXT_ENTRIES) (zeros OUTPUT_ENTRIES)) (zeros VIEW_ENTRIES) ls n ≡ got d ls' n' → SoundDrawn states actions (length ids) d
 unfolding drawing
 drawn_good states actions ids ls n {d} s a c h =
-    let g = first_of (goes states actions (steps (zeros NEXT_ENTRIES) (zeros OUTPUT_ENTRIES)) ls n) h in
-    let f = first_of (flows ids (selves (length ids) (replicate BOXES 0)) g.left g.number) g.then in
-    let v = first_of (views ids states (zeros VIEW_ENTRIES) f.left f.number) f.then in
+    let g = first_of_lem (goes states actions (steps (zeros NEXT_ENTRIES) (zeros OUTPUT_ENTRIES)) ls n) h in
+    let f = first_of_lem (flows ids (selves (length ids) (replicate BOXES 0)) g.left g.number) g.then in
+    let v = first_of_lem (views ids states (zeros VIEW_ENTRIES) f.left f.number) f.then in
     let e : drawn_as g.what f.what v.what ≡ d = cc v.then in
     rw (← e) (record {
       steps = steps_good states actions (mul-le-mul s a) ls n g.is;
@@ -197,11 +197,11 @@ parts_good : (z : Sizes) (ls : List (List ℕ)) (n : ℕ) {p : Parts} {ls' : Lis
     → parts z.states z.actions z.boxes (steps (zeros NEXT_ENTRIES) (zeros OUTPUT_ENTRIES)) (zeros VIEW_ENTRIES) ls n ≡ got p ls' n' → Sound z p
 unfolding parts
 parts_good z ls n {p} g h =
-    let b = first_of (boxes z.boxes ls n) h in
+    let b = first_of_lem (boxes z.boxes ls n) h in
     let i = ids_good z.boxes g.boxes_most ls n b.is in
     let l : length (take z.boxes b.what) ≡ z.boxes = length-take-le z.boxes b.what (omega (arith, i.filled.room, g.boxes_most)) in
-    let a = first_of (acts (take z.boxes b.what) z.actions b.left b.number) b.then in
-    let d = first_of (drawing z.states z.actions (take z.boxes b.what) (steps (zeros NEXT_ENTRIES) (zeros OUTPUT_ENTRIES)) (zeros VIEW_ENTRIES) a.left a.number) a.then in
+    let a = first_of_lem (acts (take z.boxes b.what) z.actions b.left b.number) b.then in
+    let d = first_of_lem (drawing z.states z.actions (take z.boxes b.what) (steps (zeros NEXT_ENTRIES) (zeros OUTPUT_ENTRIES)) (zeros VIEW_ENTRIES) a.left a.number) a.then in
     let e : parts_as b.what a.what d.what ≡ p = cc d.then in
     let o : Filled ACTIONS (λ box. box < z.boxes) z.actions a.what = (rw l at (owners_good (take z.boxes b.what) z.actions g.actions_most b.left b.number a.is)) in
     let w : SoundDrawn z.states z.actions z.boxes d.what = (rw l at (drawn_good z.states z.actions (take z.boxes b.what) a.left a.number g.states_most g.actions_most (omega (arith, l, g.boxes_most)) d.is)) in

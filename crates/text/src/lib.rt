@@ -7,21 +7,21 @@ ghost use Rattle.text.specs.Lines.{fields, same, end_of, line_from, number_from,
 ghost use Rattle.text.specs.Written.{Written, fitting};
 
 // What a field of digits says.
-#[derive(Drop)]
+#[derive(Clone, Copy)]
 pub enum Number {
     Good(u32),
     Bad,
 }
 
 // A number's field: what it says, and where it ends.
-#[derive(Drop)]
+#[derive(Clone, Copy)]
 pub struct Field {
     pub number: Number,
     pub end: usize,
 }
 
 // A line without its LF, with the place of the next; or the text has ended.
-#[derive(Drop)]
+#[derive(Clone, Copy)]
 pub enum Line {
     At {
         start: usize,
@@ -61,7 +61,7 @@ pub fn find_line(text: &[u8], at: usize) -> Line
 }
 
 // A reader: the bytes of a text, and a place in them.
-#[derive(Drop)]
+#[derive(Clone, Copy)]
 pub struct Reader<'a> {
     pub text: &'a [u8],
     pub at: usize,

@@ -1,5 +1,4 @@
 -- `model::highest` meets its contract. Assumes nothing.
--- Here `c3` is the place three before `c`.
 use native.Mathlib.Omega.{arith}
 use mathlib.Core.Path.{refl}
 use Rattle.model.proofs.HighestEntry.{highest_none, highest_more, highest_all}

@@ -1,5 +1,4 @@
 -- `model::highest` meets its contract. Assumes nothing.
--- Here `c3` is the place three before `c`.
 use Prim.Native.Nat.{◌≤◌, ◌-◌}
 use Rattle.model.specs.Highest.{Highest}
 use Rattle.model.proofs.highest.Given as goal

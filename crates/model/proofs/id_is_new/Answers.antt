@@ -1,5 +1,4 @@
 -- `model::id_is_new` meets its contract. Assumes nothing.
--- Here `c3` is the place three before `c`.
 use Rattle.laws.proofs.Range.{held_more}
 use Rattle.laws.proofs.Loops.{read_other, each}
 use native.Mathlib.Omega.{arith}

@@ -1,5 +1,4 @@
 -- `model::id_is_new` meets its contract. Assumes nothing.
--- Here `c3` is the place three before `c`.
 use Prim.Native.Nat.{◌≤◌, ◌-◌}
 use mathlib.Core.Bool.{not}
 use lib.Dec.{eqb}

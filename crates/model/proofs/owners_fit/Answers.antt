@@ -1,5 +1,4 @@
 -- `model::owners_fit` meets its contract. Assumes nothing.
--- Here `c3` is the place three before `c`.
 use Rattle.laws.proofs.Range.{held_more}
 use Rattle.laws.proofs.Loops.{read_lt, each}
 use native.Mathlib.Omega.{arith}

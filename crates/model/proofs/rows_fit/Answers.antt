@@ -1,5 +1,4 @@
 -- `model::rows_fit` meets its contract. Assumes nothing.
--- Here `c3` is the place three before `c`.
 use Rattle.laws.proofs.Cells.{row}
 use native.Mathlib.Omega.{arith}
 use Rattle.model.specs.Limits.{STATES, ACTIONS}

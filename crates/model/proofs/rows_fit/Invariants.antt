@@ -1,5 +1,4 @@
 -- `model::rows_fit` meets its contract. Assumes nothing.
--- Here `c3` is the place three before `c`.
 use Prim.Native.Nat.{◌≤◌, ◌-◌, ◌+◌, ◌*◌}
 use lib.Dec.{ltb}
 use lib.ListN.{get_or}

@@ -1,5 +1,4 @@
 -- `views::first_broken` meets its contract. Assumes nothing.
--- Here `c3` is the place three before `c`.
 use mathlib.Core.Path.{◌∙◌}
 use Rattle.views.proofs.Calm.{nexts}
 use Rattle.noninterference.specs.Judged.{judged}

@@ -1,6 +1,5 @@
 -- `views::first_step` meets its contract. Each loop's invariant: its number is at most the range's end, nothing is found yet, and the search that the loop makes gives nothing below its number.
 -- Assumes nothing.
--- Here `c3` is the place three before `c`.
 use mathlib.Core.Path.{◌≡◌}
 use Prim.Native.Nat.{◌≤◌, ◌<◌, ◌-◌}
 use Rattle.laws.specs.Search.{Passed}

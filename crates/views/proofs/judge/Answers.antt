@@ -1,5 +1,4 @@
 -- `views::judge` meets its contract. Assumes nothing.
--- Here `c3` is the place three before `c`.
 use borrow.Author.Tests.{eq-eqb, ne_eqb}
 use Rattle.laws.proofs.Tests.{both_of, both_no, choose_yes, choose_no, told}
 use Rattle.model.proofs.Good.{model_table_good}

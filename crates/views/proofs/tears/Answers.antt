@@ -1,5 +1,4 @@
 -- `views::tears` meets its contract. Assumes nothing.
--- Here `c3` is the place three before `c`.
 use mathlib.Core.Path.{sym}
 use Rattle.laws.proofs.Tests.{told, both_of, both_no, without_of, without_not, without_met}
 use Rattle.views.specs.Tables.{tears_in}

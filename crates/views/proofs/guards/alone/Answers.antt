@@ -1,15 +1,14 @@
 -- `views::guards::alone` meets its contract. Assumes nothing.
--- Here `c3` is the place three before `c`.
 use mathlib.Core.Path.{sym, ◌∙◌}
 use native.Mathlib.Omega.{arith}
 use borrow.Author.Tests.{eq-eqb, ne_eqb}
-use Rattle.laws.proofs.Range.{sweep-every, held_more}
+use Rattle.laws.proofs.Range.{sweep_every, held_more}
 use Rattle.laws.proofs.Loops.{every_yes, every_no}
 use Rattle.views.specs.Guards.{alone_in}
 use Rattle.views.proofs.guards.alone.Goals as goal
 
 pub states-init : goal.states-init
-states-init c = search sweep-every
+states-init c = search sweep_every
 
 pub low_of-requires : goal.low_of-requires
 low_of-requires c = omega arith

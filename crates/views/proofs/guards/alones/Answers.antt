@@ -1,5 +1,4 @@
 -- `views::guards::alones` meets its contract. Assumes nothing.
--- Here `c3` is the place three before `c`.
 use native.Mathlib.Omega.{arith}
 use Rattle.views.proofs.Calm.{alones_none, alones_more}
 use Rattle.views.proofs.guards.alones.Goals as goal

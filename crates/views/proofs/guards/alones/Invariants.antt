@@ -1,5 +1,4 @@
 -- `views::guards::alones` meets its contract. Assumes nothing.
--- Here `c3` is the place three before `c`.
 use Prim.Native.Nat.{◌≤◌, ◌-◌}
 use Rattle.views.specs.Guards.{Alones}
 use Rattle.views.proofs.guards.alones.Given as goal

@@ -1,5 +1,4 @@
 -- `views::guards::at_state` meets its contract. Assumes nothing.
--- Here `c3` is the place three before `c`.
 use native.Mathlib.Nat.{le_refl}
 use native.Mathlib.Omega.{arith}
 use Rattle.laws.proofs.Cells.{cell}

@@ -1,5 +1,4 @@
 -- `views::guards::fill_row` meets its contract. Assumes nothing.
--- Here `c3` is the place three before `c`.
 use Prim.Native.Nat.{◌≤◌, ◌-◌}
 use Rattle.views.specs.Guards.{Slots, Others, Filled}
 use Rattle.views.proofs.guards.fill_row.Given as goal

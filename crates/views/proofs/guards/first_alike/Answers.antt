@@ -1,5 +1,4 @@
 -- `views::guards::first_alike` meets its contract. Assumes nothing.
--- Here `c3` is the place three before `c`.
 use Rattle.views.proofs.Lows.{least_new, least_slot, slots_keep, slots_put, others_put, others_keep, others_second, others_more}
 use Rattle.views.proofs.guards.first_alike.Goals as goal
 

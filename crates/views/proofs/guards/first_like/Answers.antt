@@ -1,5 +1,4 @@
 -- `views::guards::first_like` meets its contract. Assumes nothing.
--- Here `c3` is the place three before `c`.
 use native.Mathlib.Omega.{arith}
 use Rattle.views.proofs.Lows.{unlike_none, unlike_more, least_found, least_self}
 use Rattle.views.proofs.guards.first_like.Goals as goal

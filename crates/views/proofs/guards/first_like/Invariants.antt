@@ -1,5 +1,4 @@
 -- `views::guards::first_like` meets its contract. Assumes nothing.
--- Here `c3` is the place three before `c`.
 use Prim.Native.Nat.{◌≤◌, ◌-◌}
 use Rattle.views.proofs.Lows.{Unlike}
 use Rattle.views.proofs.guards.first_like.Given as goal

@@ -1,5 +1,4 @@
 -- `views::guards::first_other` meets its contract. Assumes nothing.
--- Here `c3` is the place three before `c`.
 use Rattle.views.proofs.Lows.{second_new, second_slot, noted_keep, noted_put}
 use Rattle.views.proofs.guards.first_other.Goals as goal
 

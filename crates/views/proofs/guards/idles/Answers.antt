@@ -1,5 +1,4 @@
 -- `views::guards::idles` meets its contract. Assumes nothing.
--- Here `c3` is the place three before `c`.
 use native.Mathlib.Omega.{arith}
 use Rattle.views.proofs.Calm.{kept_none}
 use Rattle.views.proofs.guards.idles.Goals as goal

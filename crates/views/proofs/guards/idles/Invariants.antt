@@ -1,5 +1,4 @@
 -- `views::guards::idles` meets its contract. Assumes nothing.
--- Here `c3` is the place three before `c`.
 use Prim.Native.Nat.{◌≤◌, ◌-◌}
 use Rattle.views.specs.Guards.{Kept}
 use Rattle.views.proofs.guards.idles.Given as goal

@@ -1,5 +1,4 @@
 -- `views::guards::keeps` meets its contract. Assumes nothing.
--- Here `c3` is the place three before `c`.
 use Prim.Native.Nat.{◌≤◌, ◌-◌}
 use Rattle.views.specs.Guards.{Keeps}
 use Rattle.views.proofs.guards.keeps.Given as goal

@@ -1,5 +1,4 @@
 -- `views::guards::note_idle` meets its contract. Assumes nothing.
--- Here `c3` is the place three before `c`.
 use native.Mathlib.Omega.{arith}
 use Rattle.views.proofs.Calm.{idle_keeps, kept_more}
 use Rattle.views.proofs.guards.note_idle.Goals as goal

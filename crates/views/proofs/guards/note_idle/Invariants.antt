@@ -1,5 +1,4 @@
 -- `views::guards::note_idle` meets its contract. Assumes nothing.
--- Here `c3` is the place three before `c`.
 use Prim.Native.Nat.{◌≤◌, ◌-◌}
 use Rattle.model.specs.Limits.{BOXES}
 use Rattle.views.specs.Guards.{Kept}

@@ -1,5 +1,4 @@
 -- `views::guards::note_kept` meets its contract. Assumes nothing.
--- Here `c3` is the place three before `c`.
 use mathlib.Core.Path.{refl}
 use native.Mathlib.Omega.{arith}
 use Rattle.laws.proofs.Tests.{not_both, told}

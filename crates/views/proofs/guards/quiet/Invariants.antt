@@ -1,5 +1,4 @@
 -- `views::guards::quiet` meets its contract. Assumes nothing.
--- Here `c3` is the place three before `c`.
 use Prim.Native.Nat.{◌≤◌, ◌-◌, ◌+◌, ◌*◌}
 use lib.Dec.{eqb}
 use Rattle.laws.specs.Range.{Held}

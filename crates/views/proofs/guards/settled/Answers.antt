@@ -1,5 +1,4 @@
 -- `views::guards::settled` meets its contract. Assumes nothing.
--- Here `c3` is the place three before `c`.
 use Rattle.laws.proofs.Tests.{told}
 use Rattle.views.proofs.Calm.{keeps_calm, strong_calm, alone_owner}
 use native.Mathlib.Omega.{arith}

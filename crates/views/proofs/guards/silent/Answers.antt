@@ -1,5 +1,4 @@
 -- `views::guards::silent` meets its contract. Assumes nothing.
--- Here `c3` is the place three before `c`.
 use Rattle.laws.proofs.Tests.{told}
 use mathlib.Core.Path.{sym}
 use Rattle.views.proofs.Calm.{alone_quiet}

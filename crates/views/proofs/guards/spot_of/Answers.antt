@@ -1,5 +1,4 @@
 -- `views::guards::spot_of` meets its contract. Assumes nothing.
--- Here `c3` is the place three before `c`.
 use native.Mathlib.Omega.{arith}
 use Rattle.views.proofs.Calm.{low_small}
 use Rattle.views.proofs.guards.spot_of.Goals as goal

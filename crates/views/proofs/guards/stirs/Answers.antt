@@ -1,5 +1,4 @@
 -- `views::guards::stirs` meets its contract. Assumes nothing.
--- Here `c3` is the place three before `c`.
 use native.Mathlib.Omega.{arith}
 use mathlib.Core.Path.{refl}
 use Rattle.laws.proofs.Tests.{not_both}

@@ -1,5 +1,4 @@
 -- `views::guards::stirs` meets its contract. Assumes nothing.
--- Here `c3` is the place three before `c`.
 use Prim.Native.Nat.{◌≤◌, ◌-◌}
 use Rattle.views.specs.Guards.{Idle}
 use Rattle.views.proofs.guards.stirs.Given as goal

@@ -1,16 +1,15 @@
 -- `views::guards::strong` meets its contract. Assumes nothing.
--- Here `c3` is the place three before `c`.
 use native.Mathlib.Omega.{arith}
 use mathlib.Core.Path.{sym, ap, ◌∙◌}
 use borrow.Author.Tests.{eq-eqb, ne_eqb}
-use Rattle.laws.proofs.Range.{sweep-every, held_more}
+use Rattle.laws.proofs.Range.{sweep_every, held_more}
 use Rattle.laws.proofs.Loops.{every_yes, every_no}
 use Rattle.views.specs.Guards.{sent, strong_in}
 use Rattle.views.proofs.Calm.{next_small, low_upto}
 use Rattle.views.proofs.guards.strong.Goals as goal
 
 pub states-init : goal.states-init
-states-init c = search sweep-every
+states-init c = search sweep_every
 
 pub low_of-t-requires : goal.low_of-t-requires
 low_of-t-requires c = (c.requires.u_bound.0, omega (arith, c.requires.nexts.states_most))
