@@ -22,9 +22,9 @@ need() { # PROGRAM WHERE-IT-COMES-FROM
   command -v "$1" >/dev/null || fail "$1 is missing; $2"
 }
 
-# What the prover keeps in out/ is no source.
+# What the prover keeps in a crate's out/ is no source, so the crate's own folder doesn't count either.
 is_old() { # FILE SOURCE...
-  [[ ! -f $1 || -n $(find "${@:2}" -name out -prune -o -type f -newer "$1" -print -quit) ]]
+  [[ ! -f $1 || -n $(find "${@:2}" -path "$top/crates/*/out" -prune -o ! \( -type d -path "$top/crates/*" ! -path "$top/crates/*/*" \) -newer "$1" -print -quit) ]]
 }
 
 # Renamed when it is whole, so that a stopped one is made again.
