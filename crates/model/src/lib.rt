@@ -1,6 +1,8 @@
 // A model as values and three lent tables, and the limits that every crate goes by.
 #![tactic(auto)]
 
+mod refusal;
+
 ghost use Rattle.std.specs.Prelude.{◌≡◌, not, ◌+◌, ◌*◌, ◌^◌, ◌<◌, ◌≤◌, eqb, ltb, get_or, length};
 ghost use Rattle.laws.specs.Range.{every};
 ghost use Rattle.laws.specs.Sets.{has};
@@ -9,6 +11,8 @@ ghost use Rattle.model.specs.Arrows.{leads};
 ghost use Rattle.model.specs.Made.{sizes_from, machine_from, model_from};
 ghost use Rattle.model.specs.Highest.{Higher, Highest};
 ghost use Rattle.model.specs.Refused.{sized, sizes_fit, owners_fit, machine_fits, next_fits, ids_fit, row_fits, arrows_fit, selves_fit, drawing_fits, machine_table_fits, model_fits, model_table_fits};
+
+pub use refusal::{Refusal, Refused};
 
 // The three limits that every other one of a model follows from.
 pub const STATES: usize = 128;
