@@ -1,5 +1,5 @@
 // Why a call is refused, and on which line of a sheet.
-ghost use Rattle.std.specs.Prelude.{◌≡◌};
+ghost use Rattle.std.specs.Prelude.{◌≡◌, true, false, Err, IsOk};
 ghost use Rattle.model.specs.Refusal.{number_of, refused_as};
 
 // One variant for each number of `docs/SHEET.md` and of the edits.
@@ -50,6 +50,14 @@ impl Refusal {
             Refusal::LongHistory => 17,
             Refusal::Arrow => 18,
         }
+    }
+
+    // Nothing where a rule holds, else this refusal: for `?`.
+    pub fn unless(self, holds: bool) -> Result<(), Refusal>
+        ensures kept { holds ≡ true → IsOk result }
+        ensures broken { holds ≡ false → result ≡ Err self }
+    {
+        if holds { Ok(()) } else { Err(self) }
     }
 }
 
