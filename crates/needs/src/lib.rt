@@ -3,10 +3,11 @@
 
 mod arrows;
 mod changes;
-mod numbers;
+mod likeness;
 mod outputs;
 mod rounds;
 mod starts;
+mod walk;
 
 ghost use Rattle.std.specs.Prelude.{◌≡◌, replicate};
 ghost use Rattle.noninterference.specs.Rounds.{needed_list};
@@ -20,10 +21,11 @@ ghost use Rattle.needs.specs.Marks.{SortedOut};
 ghost use Rattle.needs.specs.Listed.{padded};
 ghost use Rattle.needs.specs.Answered.{found_in, refused_with, needed_of, list_of};
 
-use crate::arrows::{clear, mark, write_list};
+use crate::arrows::{mark, write_list};
 use crate::changes::{again, befores};
-use crate::outputs::{first_round, observes, own_actions};
-use crate::rounds::{one_class, round};
+use crate::outputs::{Outputs, first_round, observes, own_actions};
+use crate::rounds::{Classes, one_class, round};
+use crate::walk::Walk;
 use model::{ARROWS, BOXES, LIST_ENTRIES, Machine, NEXT_ENTRIES, OUTPUT_ENTRIES, STATES};
 use reach::Set;
 
@@ -44,67 +46,62 @@ pub struct Needs {
     pub depths: [usize; BOXES],
 }
 
+// A machine that keeps to the rules, with its tables.
+#[derive(Clone, Copy)]
+struct Tables<'a> {
+    machine: &'a Machine,
+    next: &'a [u16],
+    outputs: &'a [u16],
+    ghost fitting: { Fitting machine.now next.now outputs.now },
+}
+
 // The classes that no further round splits, and the rounds that split something.
 #[derive(Clone, Copy)]
 struct Refinement {
-    classes: [u8; STATES],
+    numbers: [u8; STATES],
     rounds: usize,
 }
 
 fn refine(
-    machine: Machine,
-    next: &[u16],
-    outputs: &[u16],
+    tables: &Tables<'_>,
     inside: &[bool; STATES],
     before: &[bool; STATE_PAIRS],
     u: usize,
 ) -> Refinement
-    requires fitting { Fitting machine next.now outputs.now }
-    requires known { Known (machine_of machine next.now outputs.now) (flag_at inside.now) }
-    requires befores { Befores machine.sizes.states machine.sizes.actions next.now before.now }
-    ensures { Refined (machine_of machine next.now outputs.now) (flag_at inside.now) u (entry result.classes) result.rounds }
+    requires known { Known (machine_of tables.now.machine.now tables.now.next.now tables.now.outputs.now) (flag_at inside.now) }
+    requires befores { Befores tables.now.machine.now.sizes.states tables.now.machine.now.sizes.actions tables.now.next.now before.now }
+    ensures { Refined (machine_of tables.now.machine.now tables.now.next.now tables.now.outputs.now) (flag_at inside.now) u (entry result.numbers) result.rounds }
 {
-    let owners = machine.owners;
-    let own = own_actions(&owners, machine.sizes.actions, u);
-    let list = own.list;
-    let mut classes = first_round(
-        outputs,
-        &list,
-        own.count,
-        inside,
-        machine.sizes.states,
-        machine.sizes.actions,
-    );
-    if one_class(inside, &classes, machine.sizes.states) {
-        return Refinement { classes, rounds: 0 };
+    let states = tables.machine.sizes.states;
+    let actions = tables.machine.sizes.actions;
+    let own = own_actions(tables.machine, u);
+    let outputs = Outputs {
+        table: tables.outputs,
+        actions,
+        own,
+    };
+    let mut numbers = first_round(&outputs, inside, states);
+    if one_class(inside, &numbers, states) {
+        return Refinement { numbers, rounds: 0 };
     }
+    let walk = Walk {
+        next: tables.next,
+        states,
+        actions,
+    };
     let mut marks = [true; STATES];
     let mut rounds = 0;
     'rounds: loop {
-        let outcome = round(
-            next,
-            inside,
-            &classes,
-            &marks,
-            machine.sizes.states,
-            machine.sizes.actions,
-        );
+        let classes = Classes {
+            walk,
+            numbers: &numbers,
+        };
+        let outcome = round(&classes, inside, &marks);
         if outcome.same {
-            return Refinement { classes, rounds };
+            return Refinement { numbers, rounds };
         }
-        let finer = outcome.classes;
-        let moved = outcome.moved;
-        marks = again(
-            before,
-            next,
-            &classes,
-            &finer,
-            &moved,
-            outcome.count,
-            machine.sizes.states,
-            machine.sizes.actions,
-        );
-        classes = finer;
+        marks = again(before, &classes, &outcome.numbers, &outcome.moved);
+        numbers = outcome.numbers;
         rounds += 1;
     }
 }
@@ -117,31 +114,24 @@ struct Sorted {
 }
 
 // A box without actions takes no round: it tells nothing apart.
-fn sort(machine: Machine, next: &[u16], outputs: &[u16], inside: &[bool; STATES]) -> Sorted
-    requires fitting { Fitting machine next.now outputs.now }
-    requires known { Known (machine_of machine next.now outputs.now) (flag_at inside.now) }
-    ensures { SortedOut (machine_of machine next.now outputs.now) (flag_at inside.now) result.table result.depths machine.sizes.boxes }
+fn sort(tables: &Tables<'_>, inside: &[bool; STATES]) -> Sorted
+    requires { Known (machine_of tables.now.machine.now tables.now.next.now tables.now.outputs.now) (flag_at inside.now) }
+    ensures { SortedOut (machine_of tables.now.machine.now tables.now.next.now tables.now.outputs.now) (flag_at inside.now) result.table result.depths tables.now.machine.now.sizes.boxes }
 {
-    let owners = machine.owners;
+    let machine = tables.machine;
+    let walk = Walk {
+        next: tables.next,
+        states: machine.sizes.states,
+        actions: machine.sizes.actions,
+    };
     let mut table = [false; ARROWS];
     let mut depths = [0usize; BOXES];
-    let before = befores(next, machine.sizes.states, machine.sizes.actions);
+    let before = befores(&walk);
     'boxes: for u in 0..machine.sizes.boxes {
-        if observes(&owners, machine.sizes.actions, u) {
-            let refinement = refine(machine, next, outputs, inside, &before, u);
+        if observes(machine, u) {
+            let refinement = refine(tables, inside, &before, u);
             depths[u] = refinement.rounds;
-            let classes = refinement.classes;
-            mark(
-                next,
-                &owners,
-                inside,
-                &classes,
-                machine.sizes.states,
-                machine.sizes.actions,
-                u,
-                &mut table,
-            );
-            continue 'boxes;
+            mark(&walk, &machine.owners, inside, &refinement.numbers, u, &mut table);
         }
     }
     Sorted { table, depths }
@@ -159,22 +149,19 @@ fn flags_of(reached: Set) -> [bool; STATES]
 }
 
 // What is found in a machine that keeps to the rules.
-fn found(machine: Machine, next: &[u16], outputs: &[u16], reached: Set, list: &mut [u16]) -> Needs
-    requires fitting { Fitting machine next.now outputs.now }
-    requires known { Known (machine_of machine next.now outputs.now) (has reached) }
-    requires list_value { list.old ≡ replicate LIST_ENTRIES 0 }
-    ensures value { result ≡ found_in (machine_of machine next.now outputs.now) }
-    ensures list_after { list.new ≡ padded (needed_list (machine_of machine next.now outputs.now)) }
+fn found(tables: &Tables<'_>, reached: Set, list: &mut [u16]) -> Needs
+    requires known { Known (machine_of tables.now.machine.now tables.now.next.now tables.now.outputs.now) (has reached) }
+    requires zeros { list.old ≡ replicate LIST_ENTRIES 0 }
+    ensures value { result ≡ found_in (machine_of tables.now.machine.now tables.now.next.now tables.now.outputs.now) }
+    ensures list_after { list.new ≡ padded (needed_list (machine_of tables.now.machine.now tables.now.next.now tables.now.outputs.now)) }
 {
     let inside = flags_of(reached);
-    let sorted = sort(machine, next, outputs, &inside);
-    let table = sorted.table;
-    let depths = sorted.depths;
-    let count = write_list(&table, machine.sizes.boxes, list);
+    let sorted = sort(tables, &inside);
+    let count = write_list(&sorted.table, tables.machine.sizes.boxes, list);
     let reach = reach::count(reached);
     Needs {
         outcome: Outcome::Found { count, reach },
-        depths,
+        depths: sorted.depths,
     }
 }
 
@@ -202,12 +189,16 @@ pub fn needed(machine: Machine, next: &[u16], outputs: &[u16], list: &mut [u16])
     if next.len() != NEXT_ENTRIES {
         return refused(10);
     }
-    clear(list);
+    list.fill(0);
     let answer = reach::reached(machine, next);
     let outcome = answer.outcome;
     let reach::Outcome::Found = outcome else {
         return refused(12);
     };
-    let reached = answer.set;
-    found(machine, next, outputs, reached, list)
+    let tables = Tables {
+        machine: &machine,
+        next,
+        outputs,
+    };
+    found(&tables, answer.set, list)
 }
