@@ -9,16 +9,16 @@ ghost use Rattle.model.specs.Denoted.{machine_of, policy_of, view_of};
 ghost use Rattle.model.specs.Good.{GoodMachine, GoodTable};
 ghost use Rattle.views.specs.Tables.{alike_in, leaks_in, moves_in, tears_in};
 ghost use Rattle.views.specs.Guards.{Lows, Kept, Alones};
-ghost use Rattle.views.specs.Judgement.{answer, every_state, first_broken, judgement_of};
+ghost use Rattle.model.specs.Refusal.{refused_as};
+ghost use Rattle.views.specs.Judgement.{answer, every_state, lengths_fit, first_broken, judgement_of};
 
 mod guards; // what spares the loops over pairs
 
-use model::{Machine, Model};
+use model::{BOXES, Machine, Model, NEXT_ENTRIES, OUTPUT_ENTRIES, Refusal, Refused, VIEW_ENTRIES};
 
-// Accepted; the place at which a condition is first broken; or a refusal. A position is a box's.
-#[derive(Clone, Copy)]
-pub enum Judgement {
-    Accepted,
+// Why views are not accepted: the place at which a condition is first broken, or a refusal. A position is a box's.
+#[derive(Clone, Copy, PartialEq, Eq)]
+pub enum Fault {
     Output {
         action: usize,
         s: usize,
@@ -35,10 +35,17 @@ pub enum Judgement {
         s: usize,
         t: usize,
     },
-    Refused {
-        number: usize,
-        line: usize,
-    },
+    Refused(Refused),
+}
+
+impl From<Refusal> for Fault {
+    ghost use Rattle.views.specs.declared.Fault.TheVariants as faults;
+
+    ghost from_gives = { λ refusal fault. fault ≡ faults.Refused (refused_as refusal 0) };
+
+    fn from(refusal: Refusal) -> Self {
+        Fault::Refused(refusal.into())
+    }
 }
 
 // An entry of a lent table whose rows have so many columns.
@@ -129,65 +136,57 @@ fn tears(
 
 // The first place that breaks output, by action, s, t.
 fn first_output(
-    machine: Machine,
+    machine: &Machine,
     outputs: &[u16],
     views: &[u16],
     low: &[u8; guards::LOWS],
-    alones: &[bool; model::BOXES],
-) -> Judgement
+    alones: &[bool; BOXES],
+) -> Result<(), Fault>
     requires outputs_len { length outputs.now ≡ OUTPUT_ENTRIES }
-    requires good_machine { GoodMachine machine }
-    requires lows { Lows machine.sizes.states machine.sizes.boxes views.now low.now }
-    requires alones { Alones machine.sizes.states low.now alones.now }
-    ensures { result ≡ answer (first_output (machine_of machine [] outputs.now) every_state (view_of machine views.now)) }
+    requires good_machine { GoodMachine machine.now }
+    requires lows { Lows machine.now.sizes.states machine.now.sizes.boxes views.now low.now }
+    requires alones { Alones machine.now.sizes.states low.now alones.now }
+    ensures { result ≡ answer (first_output (machine_of machine.now [] outputs.now) every_state (view_of machine.now views.now)) }
 {
     let states = machine.sizes.states;
     let actions = machine.sizes.actions;
-    let owners = machine.owners;
-    let mut found = Judgement::Accepted;
     'actions: for a in 0..actions {
-        let o = model::owner(&owners, a);
+        let o = model::owner(&machine.owners, a);
         if guards::silent(low, outputs, alones, states, actions, o, a) {
             continue 'actions;
         }
         'firsts: for s in 0..states {
             'seconds: for t in s + 1..states {
                 if leaks(outputs, views, states, actions, o, a, s, t) {
-                    found = Judgement::Output { action: a, s, t };
-                    break 'actions;
+                    return Err(Fault::Output { action: a, s, t });
                 }
             }
         }
     }
-    found
+    Ok(())
 }
 
 // The first place that breaks respect, by box, action, state.
 fn first_respect(
-    model: Model,
+    model: &Model,
     next: &[u16],
     views: &[u16],
     low: &[u8; guards::LOWS],
     kept: &mut [bool; guards::KEPT],
-) -> Judgement
+) -> Result<(), Fault>
     requires next_len { length next.now ≡ NEXT_ENTRIES }
-    requires good_table { GoodTable model.machine next.now }
-    requires lows { Lows model.machine.sizes.states model.machine.sizes.boxes views.now low.now }
-    requires kept { Kept model.machine.sizes.states model.machine.sizes.actions next.now low.now kept.old }
-    ensures kept_2 { Kept model.machine.sizes.states model.machine.sizes.actions next.now low.now kept.new }
-    ensures value { result ≡ answer (first_respect (machine_of model.machine next.now []) every_state (policy_of model) (view_of model.machine views.now)) }
+    requires good_table { GoodTable model.now.machine next.now }
+    requires lows { Lows model.now.machine.sizes.states model.now.machine.sizes.boxes views.now low.now }
+    requires kept { Kept model.now.machine.sizes.states model.now.machine.sizes.actions next.now low.now kept.old }
+    ensures still_kept { Kept model.now.machine.sizes.states model.now.machine.sizes.actions next.now low.now kept.new }
+    ensures first { result ≡ answer (first_respect (machine_of model.now.machine next.now []) every_state (policy_of model.now) (view_of model.now.machine views.now)) }
 {
-    let machine = model.machine;
-    let states = machine.sizes.states;
-    let actions = machine.sizes.actions;
-    let boxes = machine.sizes.boxes;
-    let owners = machine.owners;
-    let arrows = model.arrows;
-    let mut found = Judgement::Accepted;
-    'boxes: for u in 0..boxes {
+    let states = model.machine.sizes.states;
+    let actions = model.machine.sizes.actions;
+    'boxes: for u in 0..model.machine.sizes.boxes {
         'actions: for a in 0..actions {
-            let o = model::owner(&owners, a);
-            if model::arrow(&arrows, o, u) {
+            let o = model::owner(&model.machine.owners, a);
+            if model::arrow(&model.arrows, o, u) {
                 continue 'actions;
             }
             if guards::note_kept(low, next, kept, states, actions, u, a) {
@@ -195,47 +194,43 @@ fn first_respect(
             }
             'states: for s in 0..states {
                 if moves(next, views, states, actions, u, a, s) {
-                    found = Judgement::Respect {
+                    return Err(Fault::Respect {
                         position: u,
                         action: a,
                         s,
-                    };
-                    break 'boxes;
+                    });
                 }
             }
         }
     }
-    found
+    Ok(())
 }
 
 // The first place that breaks step, by box, action, s, t.
 fn first_step(
-    machine: Machine,
+    machine: &Machine,
     next: &[u16],
     views: &[u16],
     low: &[u8; guards::LOWS],
     kept: &[bool; guards::KEPT],
-    alones: &[bool; model::BOXES],
-) -> Judgement
+    alones: &[bool; BOXES],
+) -> Result<(), Fault>
     requires next_len { length next.now ≡ NEXT_ENTRIES }
-    requires good_table { GoodTable machine next.now }
-    requires lows { Lows machine.sizes.states machine.sizes.boxes views.now low.now }
-    requires kept { Kept machine.sizes.states machine.sizes.actions next.now low.now kept.now }
-    requires alones { Alones machine.sizes.states low.now alones.now }
-    ensures { result ≡ answer (first_step intransitive (machine_of machine next.now []) every_state (view_of machine views.now)) }
+    requires good_table { GoodTable machine.now next.now }
+    requires lows { Lows machine.now.sizes.states machine.now.sizes.boxes views.now low.now }
+    requires kept { Kept machine.now.sizes.states machine.now.sizes.actions next.now low.now kept.now }
+    requires alones { Alones machine.now.sizes.states low.now alones.now }
+    ensures { result ≡ answer (first_step intransitive (machine_of machine.now next.now []) every_state (view_of machine.now views.now)) }
 {
     let states = machine.sizes.states;
     let actions = machine.sizes.actions;
-    let boxes = machine.sizes.boxes;
-    let owners = machine.owners;
-    let mut found = Judgement::Accepted;
     let mut table = [0u8; guards::SPOTS];
-    'boxes: for u in 0..boxes {
+    'boxes: for u in 0..machine.sizes.boxes {
         if guards::is_alone(alones, u) {
             continue 'boxes;
         }
         'actions: for a in 0..actions {
-            let o = model::owner(&owners, a);
+            let o = model::owner(&machine.owners, a);
             if guards::settled(
                 low, next, kept, alones, &mut table, states, actions, u, o, a,
             ) {
@@ -244,67 +239,55 @@ fn first_step(
             'firsts: for s in 0..states {
                 'seconds: for t in s + 1..states {
                     if tears(next, views, states, actions, u, o, a, s, t) {
-                        found = Judgement::Step {
+                        return Err(Fault::Step {
                             position: u,
                             action: a,
                             s,
                             t,
-                        };
-                        break 'boxes;
+                        });
                     }
                 }
             }
         }
     }
-    found
+    Ok(())
 }
 
 // All of output before respect before step.
-fn first_broken(model: Model, next: &[u16], outputs: &[u16], views: &[u16]) -> Judgement
+fn first_broken(model: &Model, next: &[u16], outputs: &[u16], views: &[u16]) -> Result<(), Fault>
     requires next_len { (length next.now ≡ NEXT_ENTRIES) × (length outputs.now ≡ OUTPUT_ENTRIES) }
-    requires good_table { GoodTable model.machine next.now }
-    ensures { result ≡ first_broken model next.now outputs.now views.now }
+    requires good_table { GoodTable model.now.machine next.now }
+    ensures { result ≡ first_broken model.now next.now outputs.now views.now }
 {
-    let machine = model.machine;
+    let machine = &model.machine;
     let states = machine.sizes.states;
     let actions = machine.sizes.actions;
     let boxes = machine.sizes.boxes;
     let low = guards::lows(views, states, boxes);
     let alones = guards::alones(&low, states, boxes);
-    let output = first_output(machine, outputs, views, &low, &alones);
-    let Judgement::Accepted = output else {
-        return output;
-    };
+    first_output(machine, outputs, views, &low, &alones)?;
     let mut kept = guards::idles(&low, next, states, actions);
-    let respect = first_respect(model, next, views, &low, &mut kept);
-    let Judgement::Accepted = respect else {
-        return respect;
-    };
+    first_respect(model, next, views, &low, &mut kept)?;
     first_step(machine, next, views, &low, &kept, &alones)
 }
 
-// A call that takes no sheet text gives line 0.
-fn refused(number: usize) -> Judgement
-    ensures { result ≡ Judgement.Refused number 0 }
+// Whether each table has its length.
+fn lengths_fit(next: &[u16], outputs: &[u16], views: &[u16]) -> bool
+    ensures { result ≡ lengths_fit next.now outputs.now views.now }
 {
-    Judgement::Refused { number, line: 0 }
+    next.len() == NEXT_ENTRIES && outputs.len() == OUTPUT_ENTRIES && views.len() == VIEW_ENTRIES
 }
 
-// Whether the views of a model are accepted. The tables are only read.
-pub fn judge(model: Model, next: &[u16], outputs: &[u16], views: &[u16]) -> Judgement
+// Whether the views of a model are accepted. The tables are only read. Refused: a table of another length, and a model or a next
+// state that breaks the rules.
+pub fn judge(model: Model, next: &[u16], outputs: &[u16], views: &[u16]) -> Result<(), Fault>
     ensures { result ≡ judgement_of model next.now outputs.now views.now }
 {
-    if next.len() != model::NEXT_ENTRIES {
-        return refused(10);
+    if !lengths_fit(next, outputs, views) {
+        return Err(Refusal::Length.into());
     }
-    if outputs.len() != model::OUTPUT_ENTRIES {
-        return refused(10);
+    if !model::model_table_fits(model, next) {
+        return Err(Refusal::Rules.into());
     }
-    if views.len() != model::VIEW_ENTRIES {
-        return refused(10);
-    }
-    if model::model_table_fits(model, next) {
-        return first_broken(model, next, outputs, views);
-    }
-    refused(12)
+    first_broken(&model, next, outputs, views)
 }
