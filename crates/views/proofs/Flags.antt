@@ -2,24 +2,11 @@
 -- Assumes nothing.
 use mathlib.Core.Path.{◌≡◌, refl, sym, ap, ◌∙◌}
 use mathlib.Core.Option.{Option, some, none}
-use Prim.Native.Nat.{ℕ, ◌<◌}
-use native.Mathlib.Omega.{arith}
 use Rattle.laws.specs.Choice.{or_else}
 use Rattle.noninterference.specs.Place.{Place, output, respect, step}
-use Rattle.model.specs.Limits.{BOXES}
-use Rattle.model.specs.Denoted.{owner_at}
-use Rattle.model.specs.Good.{GoodMachine}
-use Rattle.model.specs.declared.Machine.{Machine}
 use Rattle.std.specs.Prelude.{Err}
 use Rattle.views.specs.Judgement.{Judgement, accepted, answer}
 use Rattle.views.specs.declared.Fault.{Fault}
-
--- the action's box is a box
-pub owner_in : {m : Machine} {o a : ℕ} → GoodMachine m → a < m.sizes.actions → o ≡ owner_at m a → o < m.sizes.boxes
-owner_in {m} {o} {a} g l e = let h = g.owner_in a l in omega arith
-
-pub owner_small : {m : Machine} {o a : ℕ} → GoodMachine m → a < m.sizes.actions → o ≡ owner_at m a → o < BOXES
-owner_small {m} {o} {a} g l e = let h = g.owner_in a l in let k = g.sizes.boxes_most in omega arith
 
 -- ---- the answer of a search; y is the search x read off the tables
 pub answer_none : {x y : Option Place} → x ≡ y → y ≡ none → accepted ≡ answer x
