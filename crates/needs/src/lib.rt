@@ -19,30 +19,26 @@ ghost use Rattle.needs.specs.Again.{Befores};
 ghost use Rattle.needs.specs.Rounds.{Known, Refined};
 ghost use Rattle.needs.specs.Marks.{SortedOut};
 ghost use Rattle.needs.specs.Listed.{padded};
-ghost use Rattle.needs.specs.Answered.{found_in, refused_with, needed_of, list_of};
+ghost use Rattle.needs.specs.Answered.{found_in, needed_of, list_of};
 
 use crate::arrows::{mark, write_list};
 use crate::changes::{again, befores};
 use crate::outputs::{Outputs, first_round, observes, own_actions};
 use crate::rounds::{Classes, one_class, round};
 use crate::walk::Walk;
-use model::{ARROWS, BOXES, LIST_ENTRIES, Machine, NEXT_ENTRIES, OUTPUT_ENTRIES, STATES};
+use model::{
+    ARROWS, BOXES, LIST_ENTRIES, Machine, NEXT_ENTRIES, OUTPUT_ENTRIES, Refusal, Refused, STATES,
+};
 use reach::Set;
 
 // A flag for each two states.
 pub(crate) const STATE_PAIRS: usize = STATES * STATES;
 
-// What the call found: how many pairs stand on the list, and how many states are reachable.
-#[derive(Clone, Copy)]
-pub enum Outcome {
-    Found { count: usize, reach: usize },
-    Refused { number: usize, line: usize },
-}
-
-// The depths are 0 beyond the last box, and where the call is refused.
+// What the call found: how many pairs stand on the list, how many states are reachable, and the depths, 0 beyond the last box.
 #[derive(Clone, Copy)]
 pub struct Needs {
-    pub outcome: Outcome,
+    pub count: usize,
+    pub reach: usize,
     pub depths: [usize; BOXES],
 }
 
@@ -131,7 +127,14 @@ fn sort(tables: &Tables<'_>, inside: &[bool; STATES]) -> Sorted
         if observes(machine, u) {
             let refinement = refine(tables, inside, &before, u);
             depths[u] = refinement.rounds;
-            mark(&walk, &machine.owners, inside, &refinement.numbers, u, &mut table);
+            mark(
+                &walk,
+                &machine.owners,
+                inside,
+                &refinement.numbers,
+                u,
+                &mut table,
+            );
         }
     }
     Sorted { table, depths }
@@ -141,64 +144,50 @@ fn sort(tables: &Tables<'_>, inside: &[bool; STATES]) -> Sorted
 fn flags_of(reached: Set) -> [bool; STATES]
     ensures { result ≡ listed reached }
 {
+    // `array::from_fn` was tried, and its proof didn't close: its fact for one index doesn't say what the closure holds
     let mut flags = [false; STATES];
     'states: for s in 0..STATES {
-        flags[s] = reach::contains(reached, s);
+        flags[s] = reached.contains(s);
     }
     flags
 }
 
 // What is found in a machine that keeps to the rules.
-fn found(tables: &Tables<'_>, reached: Set, list: &mut [u16]) -> Needs
-    requires known { Known (machine_of tables.now.machine.now tables.now.next.now tables.now.outputs.now) (has reached) }
+fn found(tables: &Tables<'_>, reached: &Set, list: &mut [u16]) -> Needs
+    requires known { Known (machine_of tables.now.machine.now tables.now.next.now tables.now.outputs.now) (has reached.now) }
     requires zeros { list.old ≡ replicate LIST_ENTRIES 0 }
     ensures value { result ≡ found_in (machine_of tables.now.machine.now tables.now.next.now tables.now.outputs.now) }
     ensures list_after { list.new ≡ padded (needed_list (machine_of tables.now.machine.now tables.now.next.now tables.now.outputs.now)) }
 {
-    let inside = flags_of(reached);
+    let inside = flags_of(*reached);
     let sorted = sort(tables, &inside);
-    let count = write_list(&sorted.table, tables.machine.sizes.boxes, list);
-    let reach = reach::count(reached);
     Needs {
-        outcome: Outcome::Found { count, reach },
+        count: write_list(&sorted.table, tables.machine.sizes.boxes, list),
+        reach: reached.count(),
         depths: sorted.depths,
     }
 }
 
-fn refused(number: usize) -> Needs
-    ensures { result ≡ refused_with number }
-{
-    Needs {
-        outcome: Outcome::Refused { number, line: 0 },
-        depths: [0usize; BOXES],
-    }
-}
-
-// The needed arrows and the depths of a machine. Refusals: 10 for a table or a list of another length, which leaves the list untouched;
-// 12 for a machine or a next state that breaks the rules, which zeroes it.
-pub fn needed(machine: Machine, next: &[u16], outputs: &[u16], list: &mut [u16]) -> Needs
+// The needed arrows and the depths of a machine. Refused: a table or a list of another length, which leaves the list untouched;
+// a machine or a next state that breaks the rules, which zeroes it.
+pub fn needed(
+    machine: Machine,
+    next: &[u16],
+    outputs: &[u16],
+    list: &mut [u16],
+) -> Result<Needs, Refused>
     ensures value { result ≡ needed_of machine next.now outputs.now list.old }
     ensures list_after { list.new ≡ list_of machine next.now outputs.now list.old }
 {
-    if outputs.len() != OUTPUT_ENTRIES {
-        return refused(10);
-    }
-    if list.len() != LIST_ENTRIES {
-        return refused(10);
-    }
-    if next.len() != NEXT_ENTRIES {
-        return refused(10);
-    }
+    Refusal::Length.unless(outputs.len() == OUTPUT_ENTRIES)?;
+    Refusal::Length.unless(list.len() == LIST_ENTRIES)?;
+    Refusal::Length.unless(next.len() == NEXT_ENTRIES)?;
     list.fill(0);
-    let answer = reach::reached(machine, next);
-    let outcome = answer.outcome;
-    let reach::Outcome::Found = outcome else {
-        return refused(12);
-    };
+    let reached = reach::reached(machine, next)?;
     let tables = Tables {
         machine: &machine,
         next,
         outputs,
     };
-    found(&tables, answer.set, list)
+    Ok(found(&tables, &reached, list))
 }

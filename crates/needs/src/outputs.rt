@@ -90,7 +90,11 @@ impl<'a> Likeness for Outputs<'a> {
 }
 
 // The classes by what a box's actions output. State 0 is the first of the one class before.
-pub(crate) fn first_round(outputs: &Outputs<'_>, inside: &[bool; STATES], states: usize) -> [u8; STATES]
+pub(crate) fn first_round(
+    outputs: &Outputs<'_>,
+    inside: &[bool; STATES],
+    states: usize,
+) -> [u8; STATES]
     requires { states ≤ STATES }
     ensures { Led (flag_at inside.now) (seen_by outputs.now.own.list outputs.now.own.count outputs.now.table.now outputs.now.actions) result states }
 {

@@ -192,7 +192,11 @@ pub(crate) struct Rounded {
 }
 
 // The next round. Only a marked state, and the first unmarked one of a class, are compared with others.
-pub(crate) fn round(classes: &Classes<'_, '_>, inside: &[bool; STATES], marks: &[bool; STATES]) -> Rounded
+pub(crate) fn round(
+    classes: &Classes<'_, '_>,
+    inside: &[bool; STATES],
+    marks: &[bool; STATES],
+) -> Rounded
     requires { Quiet classes.now.walk.states classes.now.walk.actions classes.now.walk.next.now classes.now.numbers.now marks.now }
     ensures led { Led (flag_at inside.now) (agrees (step_in classes.now.walk.actions classes.now.walk.next.now) classes.now.walk.actions (entry classes.now.numbers.now)) result.numbers classes.now.walk.states }
     ensures same { result.same ≡ unchanged classes.now.walk.states (flag_at inside.now) (entry classes.now.numbers.now) (entry result.numbers) }

@@ -7,8 +7,8 @@ pub states-init : goal.states-init
 states-init c = sources_none _ _ _ _ _ c.requires.table_long
 
 pub states-preserved : goal.states-preserved
-states-preserved c = 
+states-preserved c =
     elim c.if-inside-s.branch [
-      then-inside-s w ↦ rw w.table-is (sources_more _ _ _ _ _ c.states.invariant w.if-inside-s.true w.mark_state.ensures)
-    | else-inside-s w ↦ rw w.table-is (sources_skip _ _ _ _ _ c.states.invariant w.if-inside-s.false)
+      | then-inside-s w ↦ rw w.table-is (sources_more _ _ _ _ _ c.states.invariant w.if-inside-s.true w.mark_state.ensures)
+      | else-inside-s w ↦ rw w.table-is (sources_skip _ _ _ _ _ c.states.invariant w.if-inside-s.false)
     ]

@@ -14,12 +14,12 @@ pub overflow_add-n : goal.overflow_add-n
 overflow_add-n c = omega (arith, wanted_room _ c.requires.boxes_bound.0 c.requires.boxes_bound.1 c.targets-test.true (sym c.wanted.ensures ∙ c.if-wanted.true) c.targets.invariant)
 
 pub targets-preserved : goal.targets-preserved
-targets-preserved c = 
+targets-preserved c =
     let i = c.targets.invariant in
     let b = c.requires.boxes_bound in
     elim c.if-wanted.branch [
-      then-wanted w ↦ let t = sym c.wanted.ensures ∙ w.if-wanted.true in rw (w.list-is, w.n-is) (row_more _ _ _ t (wanted_room _ b.0 b.1 c.targets-test.true t i) i w.put.ensures)
-    | else-wanted w ↦ rw (w.list-is, w.n-is) (row_skip _ _ _ (sym c.wanted.ensures ∙ w.if-wanted.false) i)
+      | then-wanted w ↦ let t = sym c.wanted.ensures ∙ w.if-wanted.true in rw (w.list-is, w.n-is) (row_more _ _ _ t (wanted_room _ b.0 b.1 c.targets-test.true t i) i w.put.ensures)
+      | else-wanted w ↦ rw (w.list-is, w.n-is) (row_skip _ _ _ (sym c.wanted.ensures ∙ w.if-wanted.false) i)
     ]
 
 pub returns : goal.returns

@@ -10,7 +10,7 @@ pub first_alike-first-requires-clause-missed : goal.first_alike-first-requires-c
 first_alike-first-requires-clause-missed c = let w = c.args.classes.now in missed_start (step_in w.walk.actions w.walk.next.now) w.walk.actions w.below c.requires.follows.0 c.from-old.ensures
 
 pub returns-then-first-old-clause-moved_to : goal.returns-then-first-old-clause-moved_to
-returns-then-first-old-clause-moved_to c = 
+returns-then-first-old-clause-moved_to c =
     let w = c.args.classes.now in
     let m = c.requires.follows in
     let s = w.walk.steps.states_most in
@@ -19,7 +19,7 @@ returns-then-first-old-clause-moved_to c =
     moved_put c.requires.moved_to (omega (arith, s, m.0, c.requires.led.long)) _ w.below m.0 c.from-old.ensures (omega (arith, l, c.requires.leads.long)) (c.requires.unknown k.0) (omega (arith, c.first_alike-first.ensures.most, s, m.0)) (longer_same c.requires.moved_to.places) (λ z. absurd (z c.if-first-old.true))
 
 pub returns-then-speaks-clause-moved_to : goal.returns-then-speaks-clause-moved_to
-returns-then-speaks-clause-moved_to c = 
+returns-then-speaks-clause-moved_to c =
     let w = c.args.classes.now in
     let m = c.requires.follows in
     let s = w.walk.steps.states_most in

@@ -21,7 +21,7 @@ states-init c = (
 )
 
 pub states-preserved-then-old-s : goal.states-preserved-then-old-s
-states-preserved-then-old-s c = 
+states-preserved-then-old-s c =
     let w = c.args.classes.now in
     let i = c.states.invariant in
     let l = c.states-test.true in
@@ -37,7 +37,7 @@ states-preserved-then-old-s c =
     )
 
 pub states-preserved-then-number-lt-STATES : goal.states-preserved-then-number-lt-STATES
-states-preserved-then-number-lt-STATES c = 
+states-preserved-then-number-lt-STATES c =
     let w = c.args.classes.now in
     let i = c.states.invariant in
     let l = c.states-test.true in
@@ -56,7 +56,7 @@ states-preserved-then-number-lt-STATES c =
     )
 
 pub states-preserved : goal.states-preserved
-states-preserved c = 
+states-preserved c =
     let i = c.states.invariant in
     let e = c.place.ensures in
     (e.led, e.leads, e.begun, e.moved_to, same_more i.0 i.4 e.led c.still-same.ensures)
