@@ -9,7 +9,7 @@ fn power(p: usize) -> u32
     1u32 << (p as u32)
 }
 
-// 1 if position k is in the set, else 0.
+// 1 if position k is in the set, else 0: a number and no bool, since `put_of` and `column_of` put it into words.
 pub(crate) fn bit_of(set: u32, k: usize) -> u32
     requires { k < 32 }
     ensures { result ≡ bit k set }
@@ -21,10 +21,7 @@ pub(crate) fn bit_of(set: u32, k: usize) -> u32
 pub(crate) fn within(set: u32, n: usize) -> bool
     ensures { result ≡ ltb set (2 ^ n) }
 {
-    if n >= 32 {
-        return true;
-    }
-    set < power(n)
+    n >= 32 || set < power(n)
 }
 
 // The set with position k, which isn't in it.

@@ -1,29 +1,13 @@
 -- `edits::history::deleted_by` meets its contract. Assumes nothing.
-use mathlib.Core.Path.{sym, ap, ◌∙◌}
-use mathlib.Core.Bool.{not}
-use native.Mathlib.Omega.{arith}
-use Rattle.laws.proofs.Range.{held_none, held_more}
-use Rattle.laws.proofs.Loops.{some_yes, some_no}
-use Rattle.edits.specs.History.{takes, deleted_by}
-use Rattle.edits.specs.declared.Entry.{Entry}
+use Rattle.std.proofs.Common.{refl, arith, ◌∙◌, rules, tests}
+use Rattle.std.proofs.lemmas.Iterator.{YieldsList-from_range}
+use Rattle.std.proofs.lemmas.Iterator.Search.{any_from_yields_List}
+use Rattle.edits.specs.History.{entry, takes, deleted_by}
+use Rattle.edits.proofs.Chains.{any_range}
 use Rattle.edits.proofs.history.deleted_by.Goals as goal
-
-pub entries-init : goal.entries-init
-entries-init c = (omega arith, held_none _)
-
-pub returns-then-takes_id : goal.returns-then-takes_id
-unfolding deleted_by
-returns-then-takes_id c = some_yes _ _ _ c.entries-test.true (ap (λ (e : Entry). takes e c.args.id) (sym c.entry_at.ensures) ∙ sym c.takes_id.ensures ∙ c.if-takes_id.true)
-
-pub overflow_step-k : goal.overflow_step-k
-overflow_step-k c = omega arith
-
-pub entries-smaller : goal.entries-smaller
-entries-smaller c = omega arith
-
-pub entries-preserved : goal.entries-preserved
-entries-preserved c = (omega arith, held_more _ _ c.entries.invariant.1 (ap not (ap (λ (e : Entry). takes e c.args.id) (sym c.entry_at.ensures) ∙ sym c.takes_id.ensures ∙ c.if-takes_id.false)))
 
 pub returns : goal.returns
 unfolding deleted_by
-returns c = some_no _ _ c.entries-test.false c.entries.invariant.1
+returns c =
+    any_from_yields_List (λ k. takes (entry c.args.words.now k) c.args.id) _ _ _ c.any.ensures.ran (YieldsList-from_range 0 c.args.n c.args.n refl (omega arith)) (λ x b q k. search (rules, tests))
+    ∙ any_range c.args.n (λ k. takes (entry c.args.words.now k) c.args.id)
