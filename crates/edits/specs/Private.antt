@@ -4,9 +4,14 @@ use Rattle.laws.specs.Choice.{choose}
 use Rattle.laws.specs.Bits.{bit}
 use Rattle.model.specs.Limits.{BOXES}
 use Rattle.edits.specs.Records.{at, boxes}
-use Rattle.edits.specs.History.{ADD, DELETE, DRAW}
+use Rattle.edits.specs.History.{History, past, ADD, DELETE, DRAW}
 use Rattle.edits.specs.declared.BoxRecord.{BoxRecord}
+use Rattle.edits.specs.declared.history.Past.{Past}
 use Rattle.edits.specs.declared.Entry.{Entry}
+
+-- the history that the code passes on
+abbrev pub said : Past → History
+said p = past p.count p.words.now
 
 -- a place, where there is one
 abbrev pub found : ℕ → Option ℕ

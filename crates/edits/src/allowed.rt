@@ -4,8 +4,10 @@ ghost use Rattle.laws.specs.Range.{every};
 ghost use Rattle.model.specs.Limits.{BOXES, EDITS};
 ghost use Rattle.edits.specs.Records.{boxes};
 ghost use Rattle.edits.specs.History.{past};
+ghost use Rattle.edits.specs.Private.{said};
 ghost use Rattle.edits.specs.Allowed.{made_add, row_of, made_delete, made_arrow, made, good_entry, is_blank, is_box, good_at, allowed};
 
+use super::history::Past;
 use super::{BoxRecord, Entry};
 
 // A set of positions, without p.
@@ -64,66 +66,48 @@ impl BoxRecord {
 }
 
 #[tactic(auto, unfolding(laws::specs::Choice::both, laws::specs::Choice::brings, crate::specs::Allowed::good_entry))]
-fn entry_good(words: &[u32; model::EDIT_WORDS], k: usize) -> bool
+fn entry_good(past: Past, k: usize) -> bool
     requires { k < EDITS }
-    ensures { result ≡ good_entry words.now k }
+    ensures { result ≡ good_entry past.entry.words.now k }
 {
-    let e = super::history::entry_at(words, k);
-    e.is_made() && (e.kind > super::DELETE || !super::history::deleted_by(words, k, e.id))
+    let e = super::history::entry_at(past.words, k);
+    e.is_made() && (e.kind > super::DELETE || !past.first(k).deletes(e.id))
 }
 
-fn entries_good(words: &[u32; model::EDIT_WORDS], count: usize) -> bool
-    requires { count ≤ EDITS }
-    ensures { result ≡ every count (good_entry words.now) }
+fn entries_good(past: Past) -> bool
+    ensures { result ≡ every past.entry.count (good_entry past.entry.words.now) }
 {
-    (0..count).all(|k| entry_good(words, k))
+    (0..past.count).all(|k| entry_good(past, k))
 }
 
-fn is_box(
-    list: &[BoxRecord; model::BOXES],
-    words: &[u32; model::EDIT_WORDS],
-    count: usize,
-    n: usize,
-    k: usize,
-) -> bool
-    requires { (count ≤ EDITS) × (k < BOXES) }
-    ensures { result ≡ is_box list.now (past count words.now) n k }
+fn is_box(list: &[BoxRecord; model::BOXES], past: Past, n: usize, k: usize) -> bool
+    requires { k < BOXES }
+    ensures { result ≡ is_box list.now (said past.entry) n k }
 {
     let item = list[k];
     super::boxes::place_of(list, item.id) == Some(k)
-        && !super::history::deleted_by(words, count, item.id)
+        && !past.deletes(item.id)
         && super::bits::within(item.arrows, n)
         && super::bits::bit_of(item.arrows, k) == 0
 }
 
 #[tactic(auto, unfolding(laws::specs::Choice::choose, crate::specs::Allowed::good_at))]
-fn record_good(
-    list: &[BoxRecord; model::BOXES],
-    words: &[u32; model::EDIT_WORDS],
-    count: usize,
-    n: usize,
-    k: usize,
-) -> bool
-    requires { (count ≤ EDITS) × (k < BOXES) }
-    ensures { result ≡ good_at list.now (past count words.now) n k }
+fn record_good(list: &[BoxRecord; model::BOXES], past: Past, n: usize, k: usize) -> bool
+    requires { k < BOXES }
+    ensures { result ≡ good_at list.now (said past.entry) n k }
 {
     if k < n {
-        is_box(list, words, count, n, k)
+        is_box(list, past, n, k)
     } else {
         list[k].is_blank()
     }
 }
 
-fn records_good(
-    list: &[BoxRecord; model::BOXES],
-    words: &[u32; model::EDIT_WORDS],
-    count: usize,
-) -> bool
-    requires { count ≤ EDITS }
-    ensures { result ≡ every BOXES (good_at list.now (past count words.now) (boxes list.now)) }
+fn records_good(list: &[BoxRecord; model::BOXES], past: Past) -> bool
+    ensures { result ≡ every BOXES (good_at list.now (said past.entry) (boxes list.now)) }
 {
     let n = super::boxes::boxes_of(list);
-    (0..model::BOXES).all(|k| record_good(list, words, count, n, k))
+    (0..model::BOXES).all(|k| record_good(list, past, n, k))
 }
 
 #[tactic(auto, unfolding(laws::specs::Choice::both, crate::specs::Allowed::allowed))]
@@ -134,5 +118,9 @@ pub(crate) fn is_allowed(
 ) -> bool
     ensures { result ≡ allowed list.now (past count words.now) }
 {
-    count <= model::EDITS && entries_good(words, count) && records_good(list, words, count)
+    if count > model::EDITS {
+        return false;
+    }
+    let past = Past { words, count };
+    entries_good(past) && records_good(list, past)
 }

@@ -5,6 +5,7 @@ ghost use Rattle.edits.specs.Allowed.{allowed};
 ghost use Rattle.edits.specs.Plan.{plan};
 ghost use Rattle.edits.specs.Edited.{number, outcome, accepted, planned, undo, checked};
 
+use super::history::Past;
 use super::{BoxRecord, Change, Request};
 use model::Refusal;
 
@@ -50,7 +51,14 @@ fn change(
     ensures { outcome (number result) list.new count.new words.new ≡ planned list.old (past count.old words.old) (plan list.old (past count.old words.old) change) }
 {
     let n = *count;
-    let e = super::plans::plan_of(list, words, n as usize, change)?;
+    let e = super::plans::plan_of(
+        list,
+        Past {
+            words,
+            count: n as usize,
+        },
+        change,
+    )?;
     super::changes::make(list, e);
     super::history::push(words, n as usize, e);
     *count = n + 1;

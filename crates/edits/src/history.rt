@@ -38,12 +38,32 @@ pub(crate) fn entry_at(words: &[u32; model::EDIT_WORDS], k: usize) -> Entry
     }
 }
 
-// Whether one of the first n entries deletes this id.
-pub(crate) fn deleted_by(words: &[u32; model::EDIT_WORDS], n: usize, id: u32) -> bool
-    requires { n ≤ EDITS }
-    ensures { result ≡ deleted_by words.now n id }
-{
-    (0..n).any(|k| entry_at(words, k).takes(id))
+// The words that a host lends, and how many entries of them count.
+#[derive(Clone, Copy)]
+pub(crate) struct Past<'a> {
+    pub(crate) words: &'a [u32; model::EDIT_WORDS],
+    pub(crate) count: usize,
+    ghost few: { count ≤ EDITS },
+}
+
+impl<'a> Past<'a> {
+    // Whether an entry deletes this id.
+    pub(crate) fn deletes(self, id: u32) -> bool
+        ensures { result ≡ deleted_by self.entry.words.now self.entry.count id }
+    {
+        (0..self.count).any(|k| entry_at(self.words, k).takes(id))
+    }
+
+    // The first k entries alone.
+    pub(crate) fn first(self, k: usize) -> Past<'a>
+        requires { k ≤ EDITS }
+        ensures { (result.words ≡ self.entry.words) × (result.count ≡ k) }
+    {
+        Past {
+            words: self.words,
+            count: k,
+        }
+    }
 }
 
 // Nothing stays behind the first n entries.

@@ -1,27 +1,21 @@
 // The entry that does what is asked for, or why it is refused.
-ghost use Rattle.std.specs.Prelude.{◌≡◌, ◌≤◌};
-ghost use Rattle.model.specs.Limits.{EDITS};
+ghost use Rattle.std.specs.Prelude.{◌≡◌};
 ghost use Rattle.edits.specs.Records.{place};
-ghost use Rattle.edits.specs.History.{past};
+ghost use Rattle.edits.specs.Private.{said};
 ghost use Rattle.edits.specs.Plan.{plan_delete, plan_arrow, plan_change, plan};
 ghost use Rattle.edits.specs.declared.Change.TheVariants.{Add};
 
+use super::history::Past;
 use super::{BoxRecord, Change, Entry};
 use model::Refusal;
 
-fn plan_add(
-    list: &[BoxRecord; model::BOXES],
-    words: &[u32; model::EDIT_WORDS],
-    count: usize,
-    id: u32,
-) -> Result<Entry, Refusal>
-    requires { count ≤ EDITS }
-    ensures { result ≡ plan_change list.now (past count words.now) (Add id) }
+fn plan_add(list: &[BoxRecord; model::BOXES], past: Past, id: u32) -> Result<Entry, Refusal>
+    ensures { result ≡ plan_change list.now (said past.entry) (Add id) }
 {
     if super::boxes::place_of(list, id).is_some() {
         return Err(Refusal::UsedId);
     }
-    if super::history::deleted_by(words, count, id) {
+    if past.deletes(id) {
         return Err(Refusal::UsedId);
     }
     if super::boxes::boxes_of(list) == model::BOXES {
@@ -75,18 +69,16 @@ fn plan_arrow(
 #[tactic(auto, unfolding(laws::specs::Choice::choose, crate::specs::Plan::plan))]
 pub(crate) fn plan_of(
     list: &[BoxRecord; model::BOXES],
-    words: &[u32; model::EDIT_WORDS],
-    count: usize,
+    past: Past,
     change: Change,
 ) -> Result<Entry, Refusal>
-    requires { count ≤ EDITS }
-    ensures { result ≡ plan list.now (past count words.now) change }
+    ensures { result ≡ plan list.now (said past.entry) change }
 {
-    if count == model::EDITS {
+    if past.count == model::EDITS {
         return Err(Refusal::LongHistory);
     }
     match change {
-        Change::Add(id) => plan_add(list, words, count, id),
+        Change::Add(id) => plan_add(list, past, id),
         Change::Delete(id) => plan_delete(list, id),
         Change::Draw(source, target) => plan_arrow(list, super::DRAW, 0, source, target),
         Change::Erase(source, target) => plan_arrow(list, super::ERASE, 1, source, target),

@@ -8,5 +8,5 @@ use Rattle.edits.proofs.allowed.entries_good.Goals as goal
 
 pub returns : goal.returns
 returns c =
-    all_from_yields_List (good_entry c.args.words.now) _ _ _ c.all.ensures.ran (YieldsList-from_range 0 c.args.count c.args.count refl (omega arith)) (λ x b q k. search (rules, tests))
-    ∙ all_range c.args.count (good_entry c.args.words.now)
+    all_from_yields_List (good_entry c.args.past.words.now) _ _ _ c.all.ensures.ran (YieldsList-from_range 0 c.args.past.count c.args.past.count refl (omega arith)) (λ x b q k. search (rules, tests))
+    ∙ all_range c.args.past.count (good_entry c.args.past.words.now)

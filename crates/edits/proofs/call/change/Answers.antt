@@ -6,8 +6,8 @@ use Rattle.edits.proofs.Gave.{plan_room}
 use Rattle.edits.proofs.Called.{few, doable}
 use Rattle.edits.proofs.call.change.Goals as goal
 
-pub plan_of-requires : goal.plan_of-requires
-plan_of-requires c = few _ _ _ c.requires
+pub invariant_of-plan_of : goal.invariant_of-plan_of
+invariant_of-plan_of c = record { few = few _ _ _ c.requires }
 
 pub make-requires : goal.make-requires
 make-requires c = doable _ _ _ _ (sym c.plan_of.ensures ∙ c.in_ok-e.was)
