@@ -47,7 +47,7 @@ boxes_are n l m v b =
     (λ (t : n < BOXES). first_at BOXES (λ k. not (lives (at l k))) n t (λ j u. ap not (eq-eqb _ _ (v j u))) (ap (λ (box : BoxRecord). not (lives box)) (b t)))
     (eq-or-lt_of_le m)
 
-pub place_most : (l : List BoxRecord) (i : ℕ) → place l i ≤ BOXES
+place_most : (l : List BoxRecord) (i : ℕ) → place l i ≤ BOXES
 unfolding place
 place_most l i = first_le BOXES (λ k. is_with (at l k) i)
 
@@ -61,11 +61,11 @@ pub known : (l : List BoxRecord) (i : ℕ) → eqb (place l i) BOXES ≡ false �
 known l i e = let n : place l i ≡ BOXES → ⊥ = eqb-false _ _ e in omega (arith, place_most l i)
 
 -- how many boxes there are, and where one stands, as an iterator finds them
-pub boxes_found : (l : List BoxRecord) → length l ≡ BOXES → position_or_len (λ b. not (lives b)) l ≡ boxes l
+boxes_found : (l : List BoxRecord) → length l ≡ BOXES → position_or_len (λ b. not (lives b)) l ≡ boxes l
 unfolding boxes
 boxes_found l long = sym (ap (λ (n : ℕ). first n (λ k. not (lives (at l k)))) (sym long) ∙ first_position (λ b. not (lives b)) l)
 
-pub place_found : (l : List BoxRecord) (i : ℕ) → length l ≡ BOXES → position_or_len (λ b. is_with b i) l ≡ place l i
+place_found : (l : List BoxRecord) (i : ℕ) → length l ≡ BOXES → position_or_len (λ b. is_with b i) l ≡ place l i
 unfolding place
 place_found l i long = sym (ap (λ (n : ℕ). first n (λ k. is_with (at l k) i)) (sym long) ∙ first_position (λ b. is_with b i) l)
 

@@ -1,4 +1,4 @@
-// A call on a list and a history of the right lengths.
+// A call on a list and a history of the right lengths. The three that are lent stay three parameters, as C lends them.
 ghost use Rattle.std.specs.Prelude.{◌≡◌, true};
 ghost use Rattle.edits.specs.History.{past, fresh};
 ghost use Rattle.edits.specs.Allowed.{allowed};
@@ -45,20 +45,17 @@ fn change(
     list: &mut [BoxRecord; model::BOXES],
     words: &mut [u32; model::EDIT_WORDS],
     count: &mut u32,
-    change: Change,
+    asked: Change,
 ) -> Result<(), Refusal>
     requires { allowed list.old (past count.old words.old) ≡ true }
-    ensures { outcome (number result) list.new count.new words.new ≡ planned list.old (past count.old words.old) (plan list.old (past count.old words.old) change) }
+    ensures { outcome (number result) list.new count.new words.new ≡ planned list.old (past count.old words.old) (plan list.old (past count.old words.old) asked) }
 {
     let n = *count;
-    let e = super::plans::plan_of(
-        list,
-        Past {
-            words,
-            count: n as usize,
-        },
-        change,
-    )?;
+    let past = Past {
+        words,
+        count: n as usize,
+    };
+    let e = super::plans::plan_of(list, past, asked)?;
     super::changes::make(list, e);
     super::history::push(words, n as usize, e);
     *count = n + 1;

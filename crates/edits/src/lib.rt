@@ -37,7 +37,7 @@ pub struct BoxRecord {
     pub arrows: u32,
 }
 
-// An edit that was done, with what undoes it. What a kind doesn't use is zero.
+// An edit that was done, with what undoes it. What a kind doesn't use is zero. The kind is a number: the fields are words that a host keeps.
 #[derive(Clone, Copy, Default)]
 pub struct Entry {
     pub kind: u32,

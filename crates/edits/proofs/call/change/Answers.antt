@@ -6,8 +6,8 @@ use Rattle.edits.proofs.Gave.{plan_room}
 use Rattle.edits.proofs.Called.{few, doable}
 use Rattle.edits.proofs.call.change.Goals as goal
 
-pub invariant_of-plan_of : goal.invariant_of-plan_of
-invariant_of-plan_of c = record { few = few _ _ _ c.requires }
+pub invariant_of-past : goal.invariant_of-past
+invariant_of-past c = record { few = few _ _ _ c.requires }
 
 pub make-requires : goal.make-requires
 make-requires c = doable _ _ _ _ (sym c.plan_of.ensures ∙ c.in_ok-e.was)
