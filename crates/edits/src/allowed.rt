@@ -5,7 +5,7 @@ ghost use Rattle.model.specs.Limits.{BOXES, EDITS};
 ghost use Rattle.edits.specs.Records.{boxes};
 ghost use Rattle.edits.specs.History.{past};
 ghost use Rattle.edits.specs.Private.{said};
-ghost use Rattle.edits.specs.Allowed.{made_add, row_of, made_delete, made_arrow, made, good_entry, is_blank, is_box, good_at, allowed};
+ghost use Rattle.edits.specs.Allowed.{made_add, row_of, made_delete, made_arrow, made, good_entry, is_box, good_at, allowed};
 
 use super::history::Past;
 use super::{BoxRecord, Entry};
@@ -57,14 +57,6 @@ impl Entry {
     }
 }
 
-impl BoxRecord {
-    fn is_blank(self) -> bool
-        ensures { result ≡ is_blank self }
-    {
-        self.id == 0 && self.live == 0 && self.arrows == 0
-    }
-}
-
 #[tactic(auto, unfolding(laws::specs::Choice::both, laws::specs::Choice::brings, crate::specs::Allowed::good_entry))]
 fn entry_good(past: Past, k: usize) -> bool
     requires { k < EDITS }
@@ -91,7 +83,7 @@ fn is_box(list: &[BoxRecord; model::BOXES], past: Past, n: usize, k: usize) -> b
         && super::bits::bit_of(item.arrows, k) == 0
 }
 
-#[tactic(auto, unfolding(laws::specs::Choice::choose, crate::specs::Allowed::good_at))]
+#[tactic(auto, unfolding(laws::specs::Choice::both, laws::specs::Choice::choose, crate::specs::Allowed::good_at))]
 fn record_good(list: &[BoxRecord; model::BOXES], past: Past, n: usize, k: usize) -> bool
     requires { k < BOXES }
     ensures { result ≡ good_at list.now (said past.entry) n k }
@@ -99,7 +91,7 @@ fn record_good(list: &[BoxRecord; model::BOXES], past: Past, n: usize, k: usize)
     if k < n {
         is_box(list, past, n, k)
     } else {
-        list[k].is_blank()
+        list[k] == BoxRecord::default()
     }
 }
 

@@ -1,4 +1,5 @@
 // The list of boxes: how many there are, where one stands, and what moves when one goes or comes back.
+// A position is a number with a bound in the `requires`: a type of its own would be taken apart at each index and each bit.
 ghost use Rattle.std.specs.Prelude.{◌≡◌, ◌<◌, IfSome};
 ghost use Rattle.model.specs.Limits.{BOXES};
 ghost use Rattle.edits.specs.Records.{at, lives, is_with, boxes, place};

@@ -30,14 +30,15 @@ pub const DROP: u32 = 6;
 
 // A box, with live 1; or no box, all zero. Bit u of arrows: an arrow to the box at position u.
 #[repr(C)]
-#[derive(Clone, Copy, Default)]
+#[derive(Clone, Copy, Default, PartialEq, Eq)]
 pub struct BoxRecord {
     pub id: u32,
     pub live: u32,
     pub arrows: u32,
 }
 
-// An edit that was done, with what undoes it. What a kind doesn't use is zero. The kind is a number: the fields are words that a host keeps.
+// An edit that was done, with what undoes it. What a kind doesn't use is zero. The kind is a number and no enum,
+// since the fields are words that a host keeps; `as` makes positions of them, since Rust has no `From` between u32 and usize.
 #[derive(Clone, Copy, Default)]
 pub struct Entry {
     pub kind: u32,
