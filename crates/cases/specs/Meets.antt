@@ -1,5 +1,5 @@
 -- What a case's claims say: in the mathematical definitions, and of the calls' own answers.
-use Rattle.std.specs.Prelude.{◌≡◌, Bool, List, [], ◌∷◌, ℕ, ◌<◌, eqb, length, get_or}
+use Rattle.std.specs.Prelude.{◌≡◌, Bool, List, [], ◌∷◌, ℕ, ◌<◌, eqb, length, get_or, Err}
 use Rattle.laws.specs.Range.{first, count}
 use Rattle.noninterference.specs.Machine as noninterference
 use Rattle.noninterference.specs.Purge.{Policy, intransitive, purge, keeps}
@@ -12,8 +12,9 @@ use Rattle.noninterference.specs.Reached.{Reach}
 use Rattle.model.specs.Limits.{BOXES, NEXT_ENTRIES, OUTPUT_ENTRIES, VIEW_ENTRIES, LIST_ENTRIES}
 use Rattle.model.specs.Denoted.{machine_of, policy_of, view_of, owner_at}
 use Rattle.register.specs.Tables.{full}
+use Rattle.views.specs.Judgement as judging
 use Rattle.views.specs.Judgement.{judgement_of}
-use Rattle.views.specs.declared.Judgement.TheVariants.{Accepted, Output, Respect, Step}
+use Rattle.views.specs.declared.Fault.TheVariants.{Output, Respect, Step}
 use Rattle.needs.specs.Listed.{padded}
 use Rattle.needs.specs.Answered.{needed_of, list_of, told}
 use Rattle.needs.specs.declared.Needs.{Needs}
@@ -57,16 +58,16 @@ Broken c p = FirstBroken intransitive (machine c) (state c) (policy c) (view c) 
 abbrev pub Judged : Case → Views → Type 0
 Judged c accepted =
     Conditions intransitive (machine c) (state c) (policy c) (ByView (view c))
-    × (judgement_of c.model (next c) (outputs c) (views c) ≡ Accepted)
+    × (judgement_of c.model (next c) (outputs c) (views c) ≡ judging.accepted)
 Judged c (output id a s t) =
     Broken c (places.output a s t) × (id_at c (owner_at c.model.machine a) ≡ id)
-    × (judgement_of c.model (next c) (outputs c) (views c) ≡ Output a s t)
+    × (judgement_of c.model (next c) (outputs c) (views c) ≡ Err (Output a s t))
 Judged c (respect id a s) =
     Broken c (places.respect (at c id) a s) × (id_at c (at c id) ≡ id)
-    × (judgement_of c.model (next c) (outputs c) (views c) ≡ Respect (at c id) a s)
+    × (judgement_of c.model (next c) (outputs c) (views c) ≡ Err (Respect (at c id) a s))
 Judged c (step id a s t) =
     Broken c (places.step (at c id) a s t) × (id_at c (at c id) ≡ id)
-    × (judgement_of c.model (next c) (outputs c) (views c) ≡ Step (at c id) a s t)
+    × (judgement_of c.model (next c) (outputs c) (views c) ≡ Err (Step (at c id) a s t))
 
 -- the box at each end of an arrow that is given by ids
 abbrev pub arrows_of : Case → List (ℕ × ℕ) → List Arrow
