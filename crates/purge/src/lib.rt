@@ -8,44 +8,44 @@ ghost use Rattle.laws.specs.Sets.{pack};
 ghost use Rattle.model.specs.Arrows.{leads};
 ghost use Rattle.purge.specs.Sets.{marked, touches, present};
 
-use model::{ACTIONS, BOXES, Kind, Model, RUN_ACTIONS, Refusal, Refused};
+use model::{BOXES, Kind, Machine, Model, RUN_ACTIONS, Refusal, Refused};
 
 // What is written for an action that is dropped, and to the end of the buffer.
 const DROPPED: u8 = 255;
 
 // The boxes that interfere with box u.
-fn interferers(arrows: &[u32; BOXES], u: usize) -> u32
+fn interferers(model: &Model, u: usize) -> u32
     requires { u < BOXES }
-    ensures { result ≡ pack (λ v. leads arrows.now v u) 0 BOXES }
+    ensures { result ≡ pack (λ v. leads model.now.arrows v u) 0 BOXES }
 {
     let mut set: u32 = 0;
     'boxes: for v in (0..BOXES).rev() {
-        set = set * 2 + u32::from(model::arrow(arrows, v, u));
+        set = set * 2 + u32::from(model.arrow(v, u));
     }
     set
 }
 
 // The boxes that interfere with each box.
-fn all_interferers(arrows: &[u32; BOXES]) -> [u32; BOXES]
-    ensures { ((u : ℕ) → u < BOXES → get_or result u 0 ≡ pack (λ v. leads arrows.now v u) 0 BOXES) }
+fn all_interferers(model: &Model) -> [u32; BOXES]
+    ensures { ((u : ℕ) → u < BOXES → get_or result u 0 ≡ pack (λ v. leads model.now.arrows v u) 0 BOXES) }
 {
     let mut sets = [0u32; BOXES];
     'boxes: for u in 0..BOXES {
-        sets[u] = interferers(arrows, u);
+        sets[u] = interferers(model, u);
     }
     sets
 }
 
 // Writes each action that is kept in its place, and DROPPED for the others, from the right end of the run.
-fn mark(run: &[u8], kept: &mut [u8], owners: &[u8; ACTIONS], into: &[u32; BOXES], target: u32)
+fn mark(machine: &Machine, run: &[u8], kept: &mut [u8], into: &[u32; BOXES], target: u32)
     requires { length kept.old ≡ length run.now }
-    ensures { kept.new ≡ marked (touches owners.now into.now target) run.now }
+    ensures { kept.new ≡ marked (touches machine.now.owners into.now target) run.now }
 {
     // the boxes that interfere with a source of the run's part that was worked
     let mut set = target;
     'run: for i in (0..run.len()).rev() {
         let action = run[i];
-        let owner = model::owner(owners, usize::from(action));
+        let owner = machine.owner(usize::from(action));
         if model::contains(set, owner) {
             kept[i] = action;
             set |= into.get(owner).copied().unwrap_or(0);
@@ -89,12 +89,12 @@ fn asked(model: &Model, position: usize, run: &[u8]) -> bool
 }
 
 // The sets that a source adds to those who may pass something on: none in a plain purge.
-fn added(kind: Kind, arrows: &[u32; BOXES]) -> [u32; BOXES]
-    ensures { Added kind arrows.now result }
+fn added(kind: Kind, model: &Model) -> [u32; BOXES]
+    ensures { Added kind model.now.arrows result }
 {
     match kind {
         Kind::Plain => [0u32; BOXES],
-        Kind::Intransitive => all_interferers(arrows),
+        Kind::Intransitive => all_interferers(model),
     }
 }
 
@@ -104,10 +104,9 @@ fn keep(model: &Model, kind: Kind, position: usize, run: &[u8], kept: &mut [u8])
     requires kept_len { length kept.old ≡ length run.now }
     ensures { purge_result (Ok result) kept.new ≡ written (kept_of model.now kind position run.now) (length run.now) }
 {
-    let arrows = &model.arrows;
-    let into = added(kind, arrows);
-    let target = interferers(arrows, position);
-    mark(run, kept, &model.machine.owners, &into, target);
+    let into = added(kind, model);
+    let target = interferers(model, position);
+    mark(&model.machine, run, kept, &into, target);
     gather(kept)
 }
 

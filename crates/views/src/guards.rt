@@ -23,7 +23,7 @@ fn was_kept(kept: &[bool; KEPT], u: usize, a: usize) -> bool
 impl<'a> Tables<'a> {
     // The first state that looks like s to box u.
     fn low_of(&self, u: usize, s: usize) -> usize
-        requires { (u < self.now.machine.now.sizes.boxes) × (s < self.now.machine.now.sizes.states) }
+        requires { (u < self.now.model.now.machine.sizes.boxes) × (s < self.now.model.now.machine.sizes.states) }
         ensures is_low { result ≡ low_at self.now.low.now u s }
         ensures upto { result ≤ s }
     {
@@ -32,19 +32,19 @@ impl<'a> Tables<'a> {
 
     // The same of the state that the action leads to.
     fn sends(&self, u: usize, a: usize, s: usize) -> usize
-        requires box_in { (u < self.now.machine.now.sizes.boxes) × (a < self.now.machine.now.sizes.actions) }
-        requires state_in { s < self.now.machine.now.sizes.states }
-        ensures { result ≡ sent self.now.machine.now.sizes.actions self.now.next.now self.now.low.now u a s }
+        requires box_in { (u < self.now.model.now.machine.sizes.boxes) × (a < self.now.model.now.machine.sizes.actions) }
+        requires state_in { s < self.now.model.now.machine.sizes.states }
+        ensures { result ≡ sent self.now.model.now.machine.sizes.actions self.now.next.now self.now.low.now u a s }
     {
         self.low_of(u, self.after(a, s))
     }
 
     // Whether no two states are alike to u.
     fn alone(&self, u: usize) -> bool
-        requires { u < self.now.machine.now.sizes.boxes }
-        ensures { result ≡ alone_in self.now.machine.now.sizes.states self.now.low.now u }
+        requires { u < self.now.model.now.machine.sizes.boxes }
+        ensures { result ≡ alone_in self.now.model.now.machine.sizes.states self.now.low.now u }
     {
-        'states: for s in 0..self.machine.sizes.states {
+        'states: for s in 0..self.model.machine.sizes.states {
             if self.low_of(u, s) != s {
                 return false;
             }
@@ -54,10 +54,10 @@ impl<'a> Tables<'a> {
 
     // The same of every box, since step asks again for each action.
     pub(crate) fn alones(&self) -> [bool; BOXES]
-        ensures { Alones self.now.machine.now.sizes.states self.now.low.now result }
+        ensures { Alones self.now.model.now.machine.sizes.states self.now.low.now result }
     {
         let mut alones = [false; BOXES];
-        'boxes: for u in 0..self.machine.sizes.boxes {
+        'boxes: for u in 0..self.model.machine.sizes.boxes {
             alones[u] = self.alone(u);
         }
         alones
@@ -65,10 +65,10 @@ impl<'a> Tables<'a> {
 
     // Whether the action changes some state.
     fn stirs(&self, a: usize) -> bool
-        requires { a < self.now.machine.now.sizes.actions }
-        ensures { result ≡ false → Idle self.now.machine.now.sizes.states self.now.machine.now.sizes.actions self.now.next.now a }
+        requires { a < self.now.model.now.machine.sizes.actions }
+        ensures { result ≡ false → Idle self.now.model.now.machine.sizes.states self.now.model.now.machine.sizes.actions self.now.next.now a }
     {
-        'states: for s in 0..self.machine.sizes.states {
+        'states: for s in 0..self.model.machine.sizes.states {
             if self.after(a, s) != s {
                 return true;
             }
@@ -78,10 +78,10 @@ impl<'a> Tables<'a> {
 
     // An action that changes none is noted for every box.
     fn note_idle(&self, kept: &mut [bool; KEPT], a: usize)
-        requires kept { Kept self.now.machine.now.sizes.states self.now.machine.now.sizes.actions self.now.next.now self.now.low.now kept.old }
-        requires idle { Idle self.now.machine.now.sizes.states self.now.machine.now.sizes.actions self.now.next.now a }
+        requires kept { Kept self.now.model.now.machine.sizes.states self.now.model.now.machine.sizes.actions self.now.next.now self.now.low.now kept.old }
+        requires idle { Idle self.now.model.now.machine.sizes.states self.now.model.now.machine.sizes.actions self.now.next.now a }
         requires action_in { a < ACTIONS }
-        ensures { Kept self.now.machine.now.sizes.states self.now.machine.now.sizes.actions self.now.next.now self.now.low.now kept.new }
+        ensures { Kept self.now.model.now.machine.sizes.states self.now.model.now.machine.sizes.actions self.now.next.now self.now.low.now kept.new }
     {
         'boxes: for u in 0..BOXES {
             kept[u * ACTIONS + a] = true;
@@ -90,10 +90,10 @@ impl<'a> Tables<'a> {
 
     // What is noted beforehand: the actions that change no state, as those that only look.
     pub(crate) fn idles(&self) -> [bool; KEPT]
-        ensures { Kept self.now.machine.now.sizes.states self.now.machine.now.sizes.actions self.now.next.now self.now.low.now result }
+        ensures { Kept self.now.model.now.machine.sizes.states self.now.model.now.machine.sizes.actions self.now.next.now self.now.low.now result }
     {
         let mut kept = [false; KEPT];
-        'actions: for a in 0..self.machine.sizes.actions {
+        'actions: for a in 0..self.model.machine.sizes.actions {
             if self.stirs(a) {
                 continue 'actions;
             }
@@ -104,10 +104,10 @@ impl<'a> Tables<'a> {
 
     // Whether the action changes no state's class for u.
     fn keeps(&self, u: usize, a: usize) -> bool
-        requires { (u < self.now.machine.now.sizes.boxes) × (a < self.now.machine.now.sizes.actions) }
-        ensures { result ≡ true → Keeps self.now.machine.now.sizes.states self.now.machine.now.sizes.actions self.now.next.now self.now.low.now u a }
+        requires { (u < self.now.model.now.machine.sizes.boxes) × (a < self.now.model.now.machine.sizes.actions) }
+        ensures { result ≡ true → Keeps self.now.model.now.machine.sizes.states self.now.model.now.machine.sizes.actions self.now.next.now self.now.low.now u a }
     {
-        'states: for s in 0..self.machine.sizes.states {
+        'states: for s in 0..self.model.machine.sizes.states {
             if self.low_of(u, s) != self.sends(u, a, s) {
                 return false;
             }
@@ -117,10 +117,10 @@ impl<'a> Tables<'a> {
 
     // The same, and noted, since what respect looked at step need not look at again.
     pub(crate) fn note_kept(&self, kept: &mut [bool; KEPT], u: usize, a: usize) -> bool
-        requires kept { Kept self.now.machine.now.sizes.states self.now.machine.now.sizes.actions self.now.next.now self.now.low.now kept.old }
-        requires box_in { (u < self.now.machine.now.sizes.boxes) × (a < self.now.machine.now.sizes.actions) }
-        ensures still_kept { Kept self.now.machine.now.sizes.states self.now.machine.now.sizes.actions self.now.next.now self.now.low.now kept.new }
-        ensures keeps { result ≡ true → Keeps self.now.machine.now.sizes.states self.now.machine.now.sizes.actions self.now.next.now self.now.low.now u a }
+        requires kept { Kept self.now.model.now.machine.sizes.states self.now.model.now.machine.sizes.actions self.now.next.now self.now.low.now kept.old }
+        requires box_in { (u < self.now.model.now.machine.sizes.boxes) × (a < self.now.model.now.machine.sizes.actions) }
+        ensures still_kept { Kept self.now.model.now.machine.sizes.states self.now.model.now.machine.sizes.actions self.now.next.now self.now.low.now kept.new }
+        ensures keeps { result ≡ true → Keeps self.now.model.now.machine.sizes.states self.now.model.now.machine.sizes.actions self.now.next.now self.now.low.now u a }
     {
         if was_kept(kept, u, a) {
             return true;
@@ -134,10 +134,10 @@ impl<'a> Tables<'a> {
 
     // Whether each state and the first one alike to u go to states alike to u.
     fn strong(&self, u: usize, a: usize) -> bool
-        requires { (u < self.now.machine.now.sizes.boxes) × (a < self.now.machine.now.sizes.actions) }
-        ensures { result ≡ strong_in self.now.machine.now.sizes.states self.now.machine.now.sizes.actions self.now.next.now self.now.low.now u a }
+        requires { (u < self.now.model.now.machine.sizes.boxes) × (a < self.now.model.now.machine.sizes.actions) }
+        ensures { result ≡ strong_in self.now.model.now.machine.sizes.states self.now.model.now.machine.sizes.actions self.now.next.now self.now.low.now u a }
     {
-        'states: for s in 0..self.machine.sizes.states {
+        'states: for s in 0..self.model.machine.sizes.states {
             let t = self.low_of(u, s);
             if t == s {
                 continue 'states;
@@ -151,8 +151,8 @@ impl<'a> Tables<'a> {
 
     // One number for the classes of s for both boxes.
     fn spot_of(&self, u: usize, o: usize, s: usize) -> usize
-        requires boxes_in { (u < self.now.machine.now.sizes.boxes) × (o < self.now.machine.now.sizes.boxes) }
-        requires state_in { s < self.now.machine.now.sizes.states }
+        requires boxes_in { (u < self.now.model.now.machine.sizes.boxes) × (o < self.now.model.now.machine.sizes.boxes) }
+        requires state_in { s < self.now.model.now.machine.sizes.states }
         ensures { (result ≡ spot self.now.low.now u o s) × (result < SPOTS) }
     {
         self.low_of(u, s) * STATES + self.low_of(o, s)
@@ -160,8 +160,8 @@ impl<'a> Tables<'a> {
 
     // Whether t, which the spots name, is an earlier state alike to both boxes.
     fn linked(&self, u: usize, o: usize, i: usize, s: usize, t: usize) -> bool
-        requires boxes_in { (u < self.now.machine.now.sizes.boxes) × (o < self.now.machine.now.sizes.boxes) }
-        requires state_in { s < self.now.machine.now.sizes.states }
+        requires boxes_in { (u < self.now.model.now.machine.sizes.boxes) × (o < self.now.model.now.machine.sizes.boxes) }
+        requires state_in { s < self.now.model.now.machine.sizes.states }
         ensures { Links self.now.low.now u o i s t result }
     {
         if t < s {
@@ -172,11 +172,11 @@ impl<'a> Tables<'a> {
 
     // Whether each state and an earlier one alike to both boxes go to states alike to u. What stands at the spots is of no matter.
     fn weak(&self, spots: &mut [u8; SPOTS], u: usize, o: usize, a: usize) -> bool
-        requires boxes_in { (u < self.now.machine.now.sizes.boxes) × (o < self.now.machine.now.sizes.boxes) }
-        requires action_in { a < self.now.machine.now.sizes.actions }
-        ensures { result ≡ true → Calm self.now.machine.now.sizes.states self.now.machine.now.sizes.actions self.now.next.now self.now.low.now u o a }
+        requires boxes_in { (u < self.now.model.now.machine.sizes.boxes) × (o < self.now.model.now.machine.sizes.boxes) }
+        requires action_in { a < self.now.model.now.machine.sizes.actions }
+        ensures { result ≡ true → Calm self.now.model.now.machine.sizes.states self.now.model.now.machine.sizes.actions self.now.next.now self.now.low.now u o a }
     {
-        'states: for s in 0..self.machine.sizes.states {
+        'states: for s in 0..self.model.machine.sizes.states {
             let i = self.spot_of(u, o, s);
             let t = usize::from(spots[i]);
             if self.linked(u, o, i, s, t) {
@@ -200,11 +200,11 @@ impl<'a> Tables<'a> {
         o: usize,
         a: usize,
     ) -> bool
-        requires kept { Kept self.now.machine.now.sizes.states self.now.machine.now.sizes.actions self.now.next.now self.now.low.now kept.now }
-        requires alones { Alones self.now.machine.now.sizes.states self.now.low.now alones.now }
-        requires boxes_in { (u < self.now.machine.now.sizes.boxes) × (o < self.now.machine.now.sizes.boxes) }
-        requires action_in { a < self.now.machine.now.sizes.actions }
-        ensures { result ≡ true → Calm self.now.machine.now.sizes.states self.now.machine.now.sizes.actions self.now.next.now self.now.low.now u o a }
+        requires kept { Kept self.now.model.now.machine.sizes.states self.now.model.now.machine.sizes.actions self.now.next.now self.now.low.now kept.now }
+        requires alones { Alones self.now.model.now.machine.sizes.states self.now.low.now alones.now }
+        requires boxes_in { (u < self.now.model.now.machine.sizes.boxes) × (o < self.now.model.now.machine.sizes.boxes) }
+        requires action_in { a < self.now.model.now.machine.sizes.actions }
+        ensures { result ≡ true → Calm self.now.model.now.machine.sizes.states self.now.model.now.machine.sizes.actions self.now.next.now self.now.low.now u o a }
     {
         if was_kept(kept, u, a) {
             return true;
@@ -220,10 +220,10 @@ impl<'a> Tables<'a> {
 
     // Whether the action's output at each state is that at the first one alike to o, its box.
     fn quiet(&self, outputs: &[u16; OUTPUT_ENTRIES], o: usize, a: usize) -> bool
-        requires { (o < self.now.machine.now.sizes.boxes) × (a < self.now.machine.now.sizes.actions) }
-        ensures { result ≡ quiet_in self.now.machine.now.sizes.states self.now.machine.now.sizes.actions outputs.now self.now.low.now o a }
+        requires { (o < self.now.model.now.machine.sizes.boxes) × (a < self.now.model.now.machine.sizes.actions) }
+        ensures { result ≡ quiet_in self.now.model.now.machine.sizes.states self.now.model.now.machine.sizes.actions outputs.now self.now.low.now o a }
     {
-        'states: for s in 0..self.machine.sizes.states {
+        'states: for s in 0..self.model.machine.sizes.states {
             let t = self.low_of(o, s);
             if self.at_state(outputs, a, s) != self.at_state(outputs, a, t) {
                 return false;
@@ -240,9 +240,9 @@ impl<'a> Tables<'a> {
         o: usize,
         a: usize,
     ) -> bool
-        requires alones { Alones self.now.machine.now.sizes.states self.now.low.now alones.now }
-        requires box_in { (o < self.now.machine.now.sizes.boxes) × (a < self.now.machine.now.sizes.actions) }
-        ensures { result ≡ quiet_in self.now.machine.now.sizes.states self.now.machine.now.sizes.actions outputs.now self.now.low.now o a }
+        requires alones { Alones self.now.model.now.machine.sizes.states self.now.low.now alones.now }
+        requires box_in { (o < self.now.model.now.machine.sizes.boxes) × (a < self.now.model.now.machine.sizes.actions) }
+        ensures { result ≡ quiet_in self.now.model.now.machine.sizes.states self.now.model.now.machine.sizes.actions outputs.now self.now.low.now o a }
     {
         if alones[o] {
             return true;

@@ -7,7 +7,6 @@ ghost use Rattle.noninterference.specs.Judged.{first_output, first_respect, firs
 ghost use Rattle.model.specs.Limits.{STATES, ACTIONS, BOXES, NEXT_ENTRIES, OUTPUT_ENTRIES};
 ghost use Rattle.model.specs.Denoted.{machine_of, policy_of, view_of};
 ghost use Rattle.model.specs.Good.{GoodMachine, GoodTable};
-ghost use Rattle.model.specs.Arrows.{leads};
 ghost use Rattle.model.specs.declared.refusal.Refusal.TheVariants.{Length};
 ghost use Rattle.views.specs.Guards.{Kept, Alones};
 ghost use Rattle.model.specs.Refusal.{refused_as};
@@ -58,12 +57,12 @@ fn first_output(
     outputs: &[u16; OUTPUT_ENTRIES],
     alones: &[bool; BOXES],
 ) -> Result<(), Fault>
-    requires alones { Alones tables.now.machine.now.sizes.states tables.now.low.now alones.now }
-    ensures { result ≡ answer (first_output (machine_of tables.now.machine.now [] outputs.now) every_state (view_of tables.now.machine.now tables.now.views.now)) }
+    requires alones { Alones tables.now.model.now.machine.sizes.states tables.now.low.now alones.now }
+    ensures { result ≡ answer (first_output (machine_of tables.now.model.now.machine [] outputs.now) every_state (view_of tables.now.model.now.machine tables.now.views.now)) }
 {
-    let sizes = tables.machine.sizes;
+    let sizes = tables.model.machine.sizes;
     'actions: for a in 0..sizes.actions {
-        let o = model::owner(&tables.machine.owners, a);
+        let o = tables.model.machine.owner(a);
         if tables.silent(outputs, alones, o, a) {
             continue 'actions;
         }
@@ -81,18 +80,17 @@ fn first_output(
 // The first place that breaks respect, by box, action, state.
 fn first_respect(
     tables: &Tables,
-    arrows: &[u32; BOXES],
     kept: &mut [bool; KEPT],
 ) -> Result<(), Fault>
-    requires kept { Kept tables.now.machine.now.sizes.states tables.now.machine.now.sizes.actions tables.now.next.now tables.now.low.now kept.old }
-    ensures still_kept { Kept tables.now.machine.now.sizes.states tables.now.machine.now.sizes.actions tables.now.next.now tables.now.low.now kept.new }
-    ensures first { result ≡ answer (first_respect (machine_of tables.now.machine.now tables.now.next.now []) every_state (leads arrows.now) (view_of tables.now.machine.now tables.now.views.now)) }
+    requires kept { Kept tables.now.model.now.machine.sizes.states tables.now.model.now.machine.sizes.actions tables.now.next.now tables.now.low.now kept.old }
+    ensures still_kept { Kept tables.now.model.now.machine.sizes.states tables.now.model.now.machine.sizes.actions tables.now.next.now tables.now.low.now kept.new }
+    ensures first { result ≡ answer (first_respect (machine_of tables.now.model.now.machine tables.now.next.now []) every_state (policy_of tables.now.model.now) (view_of tables.now.model.now.machine tables.now.views.now)) }
 {
-    let sizes = tables.machine.sizes;
+    let sizes = tables.model.machine.sizes;
     'boxes: for u in 0..sizes.boxes {
         'actions: for a in 0..sizes.actions {
-            let o = model::owner(&tables.machine.owners, a);
-            if model::arrow(arrows, o, u) {
+            let o = tables.model.machine.owner(a);
+            if tables.model.arrow(o, u) {
                 continue 'actions;
             }
             if tables.note_kept(kept, u, a) {
@@ -114,18 +112,18 @@ fn first_respect(
 
 // The first place that breaks step, by box, action, s, t.
 fn first_step(tables: &Tables, kept: &[bool; KEPT], alones: &[bool; BOXES]) -> Result<(), Fault>
-    requires kept { Kept tables.now.machine.now.sizes.states tables.now.machine.now.sizes.actions tables.now.next.now tables.now.low.now kept.now }
-    requires alones { Alones tables.now.machine.now.sizes.states tables.now.low.now alones.now }
-    ensures { result ≡ answer (first_step intransitive (machine_of tables.now.machine.now tables.now.next.now []) every_state (view_of tables.now.machine.now tables.now.views.now)) }
+    requires kept { Kept tables.now.model.now.machine.sizes.states tables.now.model.now.machine.sizes.actions tables.now.next.now tables.now.low.now kept.now }
+    requires alones { Alones tables.now.model.now.machine.sizes.states tables.now.low.now alones.now }
+    ensures { result ≡ answer (first_step intransitive (machine_of tables.now.model.now.machine tables.now.next.now []) every_state (view_of tables.now.model.now.machine tables.now.views.now)) }
 {
-    let sizes = tables.machine.sizes;
+    let sizes = tables.model.machine.sizes;
     let mut spots = [0u8; SPOTS];
     'boxes: for u in 0..sizes.boxes {
         if alones[u] {
             continue 'boxes;
         }
         'actions: for a in 0..sizes.actions {
-            let o = model::owner(&tables.machine.owners, a);
+            let o = tables.model.machine.owner(a);
             if tables.settled(kept, alones, &mut spots, u, o, a) {
                 continue 'actions;
             }
@@ -156,10 +154,9 @@ fn first_broken(
     requires { GoodTable model.now.machine next.now }
     ensures { result ≡ first_broken model.now next.now outputs.now views.now }
 {
-    let machine = &model.machine;
-    let low = tables::lows(machine, views);
+    let low = tables::lows(&model.machine, views);
     let tables = Tables {
-        machine,
+        model,
         next,
         views,
         low: &low,
@@ -167,7 +164,7 @@ fn first_broken(
     let alones = tables.alones();
     first_output(&tables, outputs, &alones)?;
     let mut kept = tables.idles();
-    first_respect(&tables, &model.arrows, &mut kept)?;
+    first_respect(&tables, &mut kept)?;
     first_step(&tables, &kept, &alones)
 }
 

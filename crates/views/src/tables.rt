@@ -6,7 +6,7 @@ ghost use Rattle.model.specs.Good.{GoodMachine, GoodTable};
 ghost use Rattle.views.specs.Guards.{SLOTS, class_at, low_at, Least, Lows, Filled, slot_of, other_of, Slots, Others, Second, Noted};
 ghost use Rattle.views.specs.Tables.{alike_in, leaks_in, moves_in, tears_in};
 
-use model::{BOXES, Machine, NEXT_ENTRIES, OUTPUT_ENTRIES, STATES, VIEW_ENTRIES};
+use model::{BOXES, Machine, Model, NEXT_ENTRIES, OUTPUT_ENTRIES, STATES, VIEW_ENTRIES};
 
 // The first alike states, box × STATES + state; the slots of one box.
 pub(crate) const LOWS: usize = BOXES * STATES;
@@ -15,47 +15,47 @@ const SLOTS: usize = 256;
 
 #[derive(Clone, Copy)]
 pub(crate) struct Tables<'a> {
-    pub machine: &'a Machine,
+    pub model: &'a Model,
     pub next: &'a [u16; NEXT_ENTRIES],
     pub views: &'a [u16; VIEW_ENTRIES],
     pub low: &'a [u8; LOWS],
-    pub ghost good: { GoodTable machine.now next.now },
-    pub ghost lows: { Lows machine.now.sizes.states machine.now.sizes.boxes views.now low.now },
+    pub ghost good: { GoodTable model.now.machine next.now },
+    pub ghost lows: { Lows model.now.machine.sizes.states model.now.machine.sizes.boxes views.now low.now },
 }
 
 impl<'a> Tables<'a> {
     // What a table of next states or outputs has for the action at s.
     pub fn at_state(&self, table: &[u16; NEXT_ENTRIES], a: usize, s: usize) -> usize
-        requires { (a < self.now.machine.now.sizes.actions) × (s < self.now.machine.now.sizes.states) }
-        ensures { result ≡ get_or table.now (s * self.now.machine.now.sizes.actions + a) 0 }
+        requires { (a < self.now.model.now.machine.sizes.actions) × (s < self.now.model.now.machine.sizes.states) }
+        ensures { result ≡ get_or table.now (s * self.now.model.now.machine.sizes.actions + a) 0 }
     {
-        usize::from(table[s * self.machine.sizes.actions + a])
+        usize::from(table[s * self.model.machine.sizes.actions + a])
     }
 
     // The state that the action leads to from s.
     pub fn after(&self, a: usize, s: usize) -> usize
-        requires { (a < self.now.machine.now.sizes.actions) × (s < self.now.machine.now.sizes.states) }
-        ensures is_next { result ≡ get_or self.now.next.now (s * self.now.machine.now.sizes.actions + a) 0 }
-        ensures in_table { result < self.now.machine.now.sizes.states }
+        requires { (a < self.now.model.now.machine.sizes.actions) × (s < self.now.model.now.machine.sizes.states) }
+        ensures is_next { result ≡ get_or self.now.next.now (s * self.now.model.now.machine.sizes.actions + a) 0 }
+        ensures in_table { result < self.now.model.now.machine.sizes.states }
     {
         self.at_state(self.next, a, s)
     }
 
     // Whether s and t look alike to box u.
     fn alike(&self, u: usize, s: usize, t: usize) -> bool
-        requires box_in { u < self.now.machine.now.sizes.boxes }
-        requires states_in { (s < self.now.machine.now.sizes.states) × (t < self.now.machine.now.sizes.states) }
-        ensures { result ≡ alike_in self.now.machine.now.sizes.states self.now.views.now u s t }
+        requires box_in { u < self.now.model.now.machine.sizes.boxes }
+        requires states_in { (s < self.now.model.now.machine.sizes.states) × (t < self.now.model.now.machine.sizes.states) }
+        ensures { result ≡ alike_in self.now.model.now.machine.sizes.states self.now.views.now u s t }
     {
-        let row = u * self.machine.sizes.states;
+        let row = u * self.model.machine.sizes.states;
         self.views[row + s] == self.views[row + t]
     }
 
     // Whether s and t look alike to u and to o.
     fn both_alike(&self, u: usize, o: usize, s: usize, t: usize) -> bool
-        requires boxes_in { (u < self.now.machine.now.sizes.boxes) × (o < self.now.machine.now.sizes.boxes) }
-        requires states_in { (s < self.now.machine.now.sizes.states) × (t < self.now.machine.now.sizes.states) }
-        ensures { result ≡ both (alike_in self.now.machine.now.sizes.states self.now.views.now u s t) (alike_in self.now.machine.now.sizes.states self.now.views.now o s t) }
+        requires boxes_in { (u < self.now.model.now.machine.sizes.boxes) × (o < self.now.model.now.machine.sizes.boxes) }
+        requires states_in { (s < self.now.model.now.machine.sizes.states) × (t < self.now.model.now.machine.sizes.states) }
+        ensures { result ≡ both (alike_in self.now.model.now.machine.sizes.states self.now.views.now u s t) (alike_in self.now.model.now.machine.sizes.states self.now.views.now o s t) }
     {
         self.alike(u, s, t) && self.alike(o, s, t)
     }
@@ -69,27 +69,27 @@ impl<'a> Tables<'a> {
         s: usize,
         t: usize,
     ) -> bool
-        requires box_in { (o < self.now.machine.now.sizes.boxes) × (a < self.now.machine.now.sizes.actions) }
-        requires states_in { (s < self.now.machine.now.sizes.states) × (t < self.now.machine.now.sizes.states) }
-        ensures { result ≡ leaks_in self.now.machine.now.sizes.states self.now.machine.now.sizes.actions outputs.now self.now.views.now o a s t }
+        requires box_in { (o < self.now.model.now.machine.sizes.boxes) × (a < self.now.model.now.machine.sizes.actions) }
+        requires states_in { (s < self.now.model.now.machine.sizes.states) × (t < self.now.model.now.machine.sizes.states) }
+        ensures { result ≡ leaks_in self.now.model.now.machine.sizes.states self.now.model.now.machine.sizes.actions outputs.now self.now.views.now o a s t }
     {
         self.alike(o, s, t) && self.at_state(outputs, a, s) != self.at_state(outputs, a, t)
     }
 
     // Whether the action changes u's class of s.
     pub fn moves(&self, u: usize, a: usize, s: usize) -> bool
-        requires box_in { (u < self.now.machine.now.sizes.boxes) × (a < self.now.machine.now.sizes.actions) }
-        requires state_in { s < self.now.machine.now.sizes.states }
-        ensures { result ≡ moves_in self.now.machine.now.sizes.states self.now.machine.now.sizes.actions self.now.next.now self.now.views.now u a s }
+        requires box_in { (u < self.now.model.now.machine.sizes.boxes) × (a < self.now.model.now.machine.sizes.actions) }
+        requires state_in { s < self.now.model.now.machine.sizes.states }
+        ensures { result ≡ moves_in self.now.model.now.machine.sizes.states self.now.model.now.machine.sizes.actions self.now.next.now self.now.views.now u a s }
     {
         !self.alike(u, s, self.after(a, s))
     }
 
     // Whether s and t look alike to u and to o, the action's box, and no longer to u after the action.
     pub fn tears(&self, u: usize, o: usize, a: usize, s: usize, t: usize) -> bool
-        requires box_in { (u < self.now.machine.now.sizes.boxes) × (o < self.now.machine.now.sizes.boxes) × (a < self.now.machine.now.sizes.actions) }
-        requires states_in { (s < self.now.machine.now.sizes.states) × (t < self.now.machine.now.sizes.states) }
-        ensures { result ≡ tears_in self.now.machine.now.sizes.states self.now.machine.now.sizes.actions self.now.next.now self.now.views.now u o a s t }
+        requires box_in { (u < self.now.model.now.machine.sizes.boxes) × (o < self.now.model.now.machine.sizes.boxes) × (a < self.now.model.now.machine.sizes.actions) }
+        requires states_in { (s < self.now.model.now.machine.sizes.states) × (t < self.now.model.now.machine.sizes.states) }
+        ensures { result ≡ tears_in self.now.model.now.machine.sizes.states self.now.model.now.machine.sizes.actions self.now.next.now self.now.views.now u o a s t }
     {
         self.both_alike(u, o, s, t) && !self.alike(u, self.after(a, s), self.after(a, t))
     }

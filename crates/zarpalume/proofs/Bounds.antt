@@ -27,7 +27,7 @@ use Rattle.model.specs.declared.Model.{Model}
 use Rattle.model.proofs.Good.{table_good, model_table_good}
 use Rattle.views.specs.Judgement as judging
 use Rattle.views.specs.Judgement.{judgement_of, answer}
-use Rattle.views.proofs.Sound.{refused_10, refused_12, accepted_or_place, first_place}
+use Rattle.views.proofs.Sound.{refused_length, refused_rules, accepted_or_place, first_place}
 use Rattle.needs.specs.Answered.{needed_of, list_of, lengths_fit, refused_with, found_in, depths_of}
 use Rattle.needs.specs.Demand.{Demand}
 use Rattle.needs.proofs.Demand.{demand_3}
@@ -57,8 +57,8 @@ module _ (m : Model) (next outputs views : List ℕ) where
       (λ l. by_test (model_table_fits m next)
       (λ f. ⊎_elim (λ e. subst Small (sym e) tt)
       (λ q. subst Small (sym q.1) (place_small ((model_table_good m next).0 f).0 q.0 q.1)) (accepted_or_place m next outputs views l f))
-      (λ f. subst Small (sym (refused_12 m next outputs views l f)) (omega arith, omega arith)))
-      (λ l. subst Small (sym (refused_10 m next outputs views l)) (omega arith, omega arith))
+      (λ f. subst Small (sym (refused_rules m next outputs views l f)) (omega arith)))
+      (λ l. subst Small (sym (refused_length m next outputs views l)) (omega arith))
 
 -- ---- the needed-arrow call's answer
 refused_few : (number : ℕ) → Few (refused_with number)

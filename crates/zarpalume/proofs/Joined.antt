@@ -4,8 +4,7 @@ use mathlib.Core.Path.{◌≡◌, ◌∙◌, ap}
 use mathlib.Core.List.{List, ◌++◌, append_assoc}
 use Prim.Native.Nat.{ℕ}
 use Rattle.model.specs.declared.Model.{Model}
-use Rattle.views.specs.Judgement.{judgement_of}
-use Rattle.views.specs.declared.Judgement.{Judgement}
+use Rattle.views.specs.Judgement.{Judgement, judgement_of}
 use Rattle.needs.specs.Answered.{needed_of, list_of}
 use Rattle.needs.specs.declared.Needs.{Needs}
 use Rattle.zarpalume.specs.Lines.{line, ended, reach_words, views_line, need_lines, depth_lines, reach_line}

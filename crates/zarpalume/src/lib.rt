@@ -13,7 +13,7 @@ ghost use Rattle.zarpalume.specs.Verdict.{pairs, reached, Few, verdict_of, refus
 use model::{Machine, Model};
 use needs::{Needs, Outcome};
 use sheet::Answer;
-use views::Judgement;
+use views::Fault;
 
 // Every byte made 0.
 fn zero(bytes: &mut [u8])
@@ -47,22 +47,20 @@ fn reached(outcome: Outcome) -> usize
 // The lines of a verdict, each into the rest of the buffer.
 fn put_lines(
     verdict: &mut [u8],
-    model: Model,
-    judgement: Judgement,
+    model: &Model,
+    judged: Result<(), Fault>,
     needs: Needs,
     list: &[u16; model::LIST_ENTRIES],
 ) -> usize
-    requires { (length verdict.old ≡ VERDICT_BYTES) × (model.machine.sizes.boxes ≤ BOXES) × Small judgement × Few needs }
-    ensures { Written verdict.old verdict.new result (views_line model.ids model.machine.owners judgement ++ (need_lines model.ids list.now (pairs needs.outcome) ++ (depth_lines model.ids needs.depths model.machine.sizes.boxes ++ reach_line (reached needs.outcome)))) × (result ≤ VERDICT_BYTES) }
+    requires { (length verdict.old ≡ VERDICT_BYTES) × (model.now.machine.sizes.boxes ≤ BOXES) × Small judged × Few needs }
+    ensures { Written verdict.old verdict.new result (views_line model.now.ids model.now.machine.owners judged ++ (need_lines model.now.ids list.now (pairs needs.outcome) ++ (depth_lines model.now.ids needs.depths model.now.machine.sizes.boxes ++ reach_line (reached needs.outcome)))) × (result ≤ VERDICT_BYTES) }
 {
-    let ids = model.ids;
-    let owners = model.machine.owners;
     let boxes = model.machine.sizes.boxes;
     let outcome = needs.outcome;
     let depths = needs.depths;
-    let a = lines::put_views(verdict, &ids, &owners, judgement);
-    let b = a + lines::put_needs(&mut verdict[a..], &ids, list, pairs(outcome));
-    let c = b + lines::put_depths(&mut verdict[b..], &ids, &depths, boxes);
+    let a = lines::put_views(verdict, model, judged);
+    let b = a + lines::put_needs(&mut verdict[a..], &model.ids, list, pairs(outcome));
+    let c = b + lines::put_depths(&mut verdict[b..], &model.ids, &depths, boxes);
     c + lines::put_reach(&mut verdict[c..], reached(outcome) as u32)
 }
 
@@ -77,11 +75,11 @@ fn put_verdict(
     requires { (length verdict.old ≡ VERDICT_BYTES) × (model.machine.sizes.boxes ≤ BOXES) }
     ensures { Written verdict.old verdict.new result (verdict_of model next.now outputs.now views.now) × (result ≤ VERDICT_BYTES) }
 {
-    let judgement = views::judge(model, next, outputs, views);
+    let judged = views::judge(model, next, outputs, views);
     let mut list = [0u16; model::LIST_ENTRIES];
     let machine = model.machine;
     let needs = needs::needed(machine, next, outputs, &mut list);
-    put_lines(verdict, model, judgement, needs, &list)
+    put_lines(verdict, &model, judged, needs, &list)
 }
 
 // A refusal is one line.

@@ -9,7 +9,7 @@ use Rattle.laws.specs.Sets.{pack}
 use Rattle.purge.proofs.all_interferers.Given as goal
 
 abbrev pub invariant-boxes : goal.invariant-boxes
-invariant-boxes l = (l.u ≤ BOXES) × (length l.sets ≡ BOXES) × Filled (λ w. pack (λ v. leads l.arrows v w) 0 BOXES) l.u l.sets
+invariant-boxes l = (l.u ≤ BOXES) × (length l.sets ≡ BOXES) × Filled (λ w. pack (λ v. leads l.model.arrows v w) 0 BOXES) l.u l.sets
 
 abbrev pub decreases-boxes : goal.decreases-boxes
 decreases-boxes l = BOXES - l.u

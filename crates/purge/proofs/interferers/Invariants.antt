@@ -7,4 +7,4 @@ use Rattle.laws.specs.Sets.{pack}
 use Rattle.purge.proofs.interferers.Given as goal
 
 abbrev pub invariant-boxes : goal.invariant-boxes
-invariant-boxes l = l.set ≡ pack (λ w. leads l.arrows w l.u) l.v (BOXES - l.v)
+invariant-boxes l = l.set ≡ pack (λ w. leads l.model.arrows w l.u) l.v (BOXES - l.v)

@@ -34,13 +34,13 @@ actions-preserved c = search sweep
 pub returns : goal.returns
 returns c =
     let k = c.args.tables.now in
-    answer_none (output_is k.machine.now [] c.args.outputs.now k.views.now) (first_of_none _ _ c.actions-test.false c.actions.invariant)
+    answer_none (output_is k.model.now.machine [] c.args.outputs.now k.views.now) (first_of_none _ _ c.actions-test.false c.actions.invariant)
 
 pub returns-then-leaks : goal.returns-then-leaks
 unfolding answer
 returns-then-leaks c =
     let k = c.args.tables.now in
-    answer_place (output _ _ _) (output_is k.machine.now [] c.args.outputs.now k.views.now) (first_of_hit _ _ _ _ c.actions-test.true
+    answer_place (output _ _ _) (output_is k.model.now.machine [] c.args.outputs.now k.views.now) (first_of_hit _ _ _ _ c.actions-test.true
     c.actions.invariant (first_of_hit _ _ _ _ c.firsts-test.true c.firsts.invariant (when_hit _ _ refl (first_of_hit _ _ _ _
     c.seconds-test.true c.seconds.invariant (pair_hit c.firsts.s c.seconds.t _ _ (omega (arith, c.seconds.auto.t)) (when_hit _ _ (told _ _ (rw c.owner-o.ensures at
     c.leaks.ensures) c.if-leaks.true) refl))))))

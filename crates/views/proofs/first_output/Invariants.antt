@@ -5,10 +5,10 @@ use Rattle.views.proofs.Searches.{output_at, output_from, output_of}
 use Rattle.views.proofs.first_output.Given as goal
 
 abbrev pub invariant-seconds : goal.invariant-seconds
-invariant-seconds l = Passed l.t (output_at l.sizes.states l.sizes.actions l.tables.machine.now.owners l.outputs l.tables.views.now l.a l.s)
+invariant-seconds l = Passed l.t (output_at l.sizes.states l.sizes.actions l.tables.model.now.machine.owners l.outputs l.tables.views.now l.a l.s)
 
 abbrev pub invariant-firsts : goal.invariant-firsts
-invariant-firsts l = Passed l.s (output_from l.sizes.states l.sizes.actions l.tables.machine.now.owners l.outputs l.tables.views.now l.a)
+invariant-firsts l = Passed l.s (output_from l.sizes.states l.sizes.actions l.tables.model.now.machine.owners l.outputs l.tables.views.now l.a)
 
 abbrev pub invariant-actions : goal.invariant-actions
-invariant-actions l = Passed l.a (output_of l.sizes.states l.sizes.actions l.tables.machine.now.owners l.outputs l.tables.views.now)
+invariant-actions l = Passed l.a (output_of l.sizes.states l.sizes.actions l.tables.model.now.machine.owners l.outputs l.tables.views.now)

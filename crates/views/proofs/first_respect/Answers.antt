@@ -20,7 +20,7 @@ actions-preserved-then-arrow c = record {
 pub actions-preserved-then-note_kept : goal.actions-preserved-then-note_kept
 actions-preserved-then-note_kept c =
     let k = c.args.tables.now in record {
-      passed = passed_more _ _ c.actions.invariant.passed (keeps_still k.good k.lows k.machine.now.owners c.args.arrows.now c.boxes-test.true c.actions-test.true
+      passed = passed_more _ _ c.actions.invariant.passed (keeps_still k.good k.lows k.model.now.machine.owners k.model.now.arrows c.boxes-test.true c.actions-test.true
           (c.note_kept.ensures.keeps c.if-note_kept.true));
       kept = c.note_kept.ensures.still_kept;
     }
@@ -44,13 +44,13 @@ boxes-preserved c = record {
 pub returns-clause-first : goal.returns-clause-first
 returns-clause-first c =
     let k = c.args.tables.now in
-    answer_none (respect_is k.machine.now c.args.arrows.now k.next.now [] k.views.now) (first_of_none _ _ c.boxes-test.false c.boxes.invariant.passed)
+    answer_none (respect_is k.model.now.machine k.model.now.arrows k.next.now [] k.views.now) (first_of_none _ _ c.boxes-test.false c.boxes.invariant.passed)
 
 pub returns-then-moves-clause-first : goal.returns-then-moves-clause-first
 unfolding answer
 returns-then-moves-clause-first c =
     let k = c.args.tables.now in
-    answer_place (respect _ _ _) (respect_is k.machine.now c.args.arrows.now k.next.now [] k.views.now) (first_of_hit _ _ _ _ c.boxes-test.true
+    answer_place (respect _ _ _) (respect_is k.model.now.machine k.model.now.arrows k.next.now [] k.views.now) (first_of_hit _ _ _ _ c.boxes-test.true
     c.boxes.invariant.passed (first_of_hit _ _ _ _ c.actions-test.true c.actions.invariant.passed (when_hit _ _ (sym (not_no (told _ _
     (rw c.owner-o.ensures at c.arrow.ensures) c.if-arrow.false))) (first_of_hit _ _ _ _ c.states-test.true
     c.states.invariant (when_hit _ _ refl (when_hit _ _ (told _ _ c.moves.ensures c.if-moves.true) refl))))))

@@ -7,16 +7,16 @@ use Rattle.views.proofs.Searches.{respect_at, respect_from, respect_of}
 use Rattle.views.proofs.first_respect.Given as goal
 
 abbrev pub invariant-states : goal.invariant-states
-invariant-states l = Passed l.s (respect_at l.sizes.states l.sizes.actions l.tables.machine.now.owners l.arrows l.tables.next.now l.tables.views.now l.u l.a)
+invariant-states l = Passed l.s (respect_at l.sizes.states l.sizes.actions l.tables.model.now.machine.owners l.tables.model.now.arrows l.tables.next.now l.tables.views.now l.u l.a)
 
 abbrev pub invariant-actions : goal.invariant-actions
 invariant-actions l = record {
-  passed : Passed l.a (respect_from l.sizes.states l.sizes.actions l.tables.machine.now.owners l.arrows l.tables.next.now l.tables.views.now l.u);
+  passed : Passed l.a (respect_from l.sizes.states l.sizes.actions l.tables.model.now.machine.owners l.tables.model.now.arrows l.tables.next.now l.tables.views.now l.u);
   kept : Kept l.sizes.states l.sizes.actions l.tables.next.now l.tables.low.now l.kept;
 }
 
 abbrev pub invariant-boxes : goal.invariant-boxes
 invariant-boxes l = record {
-  passed : Passed l.u (respect_of l.sizes.states l.sizes.actions l.tables.machine.now.owners l.arrows l.tables.next.now l.tables.views.now);
+  passed : Passed l.u (respect_of l.sizes.states l.sizes.actions l.tables.model.now.machine.owners l.tables.model.now.arrows l.tables.next.now l.tables.views.now);
   kept : Kept l.sizes.states l.sizes.actions l.tables.next.now l.tables.low.now l.kept;
 }

@@ -42,13 +42,13 @@ boxes-preserved c = passed_more _ _ c.boxes.invariant (first_of_none _ _ c.actio
 pub returns : goal.returns
 returns c =
     let k = c.args.tables.now in
-    answer_none (step_is k.machine.now k.next.now [] k.views.now) (first_of_none _ _ c.boxes-test.false c.boxes.invariant)
+    answer_none (step_is k.model.now.machine k.next.now [] k.views.now) (first_of_none _ _ c.boxes-test.false c.boxes.invariant)
 
 pub returns-then-tears : goal.returns-then-tears
 unfolding answer
 returns-then-tears c =
     let k = c.args.tables.now in
-    answer_place (step _ _ _ _) (step_is k.machine.now k.next.now [] k.views.now) (first_of_hit _ _ _ _ c.boxes-test.true c.boxes.invariant
+    answer_place (step _ _ _ _) (step_is k.model.now.machine k.next.now [] k.views.now) (first_of_hit _ _ _ _ c.boxes-test.true c.boxes.invariant
     (first_of_hit _ _ _ _ c.actions-test.true c.actions.invariant (first_of_hit _ _ _ _ c.firsts-test.true c.firsts.invariant
     (when_hit _ _ refl (first_of_hit _ _ _ _ c.seconds-test.true c.seconds.invariant (pair_hit c.firsts.s c.seconds.t _ _ (omega (arith, c.seconds.auto.t)) (when_hit _ _
     (told _ _ (rw c.owner-o.ensures at c.tears.ensures) c.if-tears.true) refl)))))))

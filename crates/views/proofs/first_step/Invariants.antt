@@ -5,13 +5,13 @@ use Rattle.views.proofs.Searches.{step_at, step_from, step_under, step_of}
 use Rattle.views.proofs.first_step.Given as goal
 
 abbrev pub invariant-seconds : goal.invariant-seconds
-invariant-seconds l = Passed l.t (step_at l.sizes.states l.sizes.actions l.tables.machine.now.owners l.tables.next.now l.tables.views.now l.u l.a l.s)
+invariant-seconds l = Passed l.t (step_at l.sizes.states l.sizes.actions l.tables.model.now.machine.owners l.tables.next.now l.tables.views.now l.u l.a l.s)
 
 abbrev pub invariant-firsts : goal.invariant-firsts
-invariant-firsts l = Passed l.s (step_from l.sizes.states l.sizes.actions l.tables.machine.now.owners l.tables.next.now l.tables.views.now l.u l.a)
+invariant-firsts l = Passed l.s (step_from l.sizes.states l.sizes.actions l.tables.model.now.machine.owners l.tables.next.now l.tables.views.now l.u l.a)
 
 abbrev pub invariant-actions : goal.invariant-actions
-invariant-actions l = Passed l.a (step_under l.sizes.states l.sizes.actions l.tables.machine.now.owners l.tables.next.now l.tables.views.now l.u)
+invariant-actions l = Passed l.a (step_under l.sizes.states l.sizes.actions l.tables.model.now.machine.owners l.tables.next.now l.tables.views.now l.u)
 
 abbrev pub invariant-boxes : goal.invariant-boxes
-invariant-boxes l = Passed l.u (step_of l.sizes.states l.sizes.actions l.tables.machine.now.owners l.tables.next.now l.tables.views.now)
+invariant-boxes l = Passed l.u (step_of l.sizes.states l.sizes.actions l.tables.model.now.machine.owners l.tables.next.now l.tables.views.now)

@@ -13,11 +13,11 @@ put_lines-requires c =
     let a = c.args in (
       search rules,
       c.requires.1,
-      subst Small (sym c.judge-judgement.ensures) (small a.model a.next.now a.outputs.now a.views.now),
+      subst Small (sym c.judge-judged.ensures) (small a.model a.next.now a.outputs.now a.views.now),
       subst Few (sym c.needed-needs.ensures.value) (few a.model.machine a.next.now a.outputs.now blank),
     )
 
 pub returns : goal.returns
 returns c =
     let a = c.args in
-    (same_as (verdict_is a.model a.next.now a.outputs.now a.views.now _ _ _ c.judge-judgement.ensures c.needed-needs.ensures.value c.needed-needs.ensures.list_after) c.put_lines.ensures.0, c.put_lines.ensures.1)
+    (same_as (verdict_is a.model a.next.now a.outputs.now a.views.now _ _ _ c.judge-judged.ensures c.needed-needs.ensures.value c.needed-needs.ensures.list_after) c.put_lines.ensures.0, c.put_lines.ensures.1)

@@ -3,4 +3,4 @@ use Rattle.views.specs.Guards.{Alones}
 use Rattle.views.proofs.tables.Tables.alones.Given as goal
 
 abbrev pub invariant-boxes : goal.invariant-boxes
-invariant-boxes l = Alones l.self.machine.now.sizes.states l.self.low.now l.alones
+invariant-boxes l = Alones l.self.model.now.machine.sizes.states l.self.low.now l.alones

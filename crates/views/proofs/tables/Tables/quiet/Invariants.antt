@@ -8,4 +8,4 @@ use Rattle.views.proofs.tables.Tables.quiet.Given as goal
 
 abbrev pub invariant-states : goal.invariant-states
 invariant-states l = Held l.s (λ s.
-    eqb (get_or l.outputs (s * l.self.machine.now.sizes.actions + l.a) 0) (get_or l.outputs (low_at l.self.low.now l.o s * l.self.machine.now.sizes.actions + l.a) 0))
+    eqb (get_or l.outputs (s * l.self.model.now.machine.sizes.actions + l.a) 0) (get_or l.outputs (low_at l.self.low.now l.o s * l.self.model.now.machine.sizes.actions + l.a) 0))

@@ -3,4 +3,4 @@ use Rattle.views.specs.Guards.{Idle}
 use Rattle.views.proofs.tables.Tables.stirs.Given as goal
 
 abbrev pub invariant-states : goal.invariant-states
-invariant-states l = Idle l.s l.self.machine.now.sizes.actions l.self.next.now l.a
+invariant-states l = Idle l.s l.self.model.now.machine.sizes.actions l.self.next.now l.a

@@ -12,7 +12,7 @@ states-init c = held_none _
 pub states-preserved-then-t-s : goal.states-preserved-then-t-s
 states-preserved-then-t-s c =
     let k = c.args in
-    held_more _ _ c.states.invariant (eq-eqb _ _ (ap (sent k.self.now.machine.now.sizes.actions k.self.now.next.now k.self.now.low.now k.u k.a)
+    held_more _ _ c.states.invariant (eq-eqb _ _ (ap (sent k.self.now.model.now.machine.sizes.actions k.self.now.next.now k.self.now.low.now k.u k.a)
     (sym c.if-t-s.true ∙ c.low_of-t.ensures.is_low)))
 
 pub returns-then-sends : goal.returns-then-sends
