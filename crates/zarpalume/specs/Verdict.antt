@@ -1,5 +1,5 @@
 -- The verdict on a sheet, and the host call.
-use Rattle.std.specs.Prelude.{ℕ, ◌-◌, ◌<◌, ◌≤◌, List, [], ◌++◌, eqb, length, get_or, replicate}
+use Rattle.std.specs.Prelude.{ℕ, ◌-◌, ◌<◌, ◌≤◌, List, ◌++◌, eqb, length, get_or, replicate}
 use Rattle.laws.specs.Choice.{choose}
 use Rattle.model.specs.Limits.{PAIRS, LIST_ENTRIES, VERDICT_BYTES}
 use Rattle.model.specs.declared.Model.{Model}
@@ -8,8 +8,8 @@ use Rattle.needs.specs.Answered.{needed_of, list_of}
 use Rattle.needs.specs.declared.Needs.{Needs}
 use Rattle.needs.specs.declared.Outcome.{Outcome}
 use Rattle.needs.specs.declared.Outcome.TheVariants.{Found, Refused}
-use Rattle.sheet.specs.declared.Answer.{Answer}
-use Rattle.sheet.specs.declared.Answer.TheVariants as answers
+use Rattle.model.specs.Refusal.{number_of}
+use Rattle.model.specs.declared.refusal.Refused as model_refused
 use Rattle.sheet.specs.Reading.{Reading, model_of, model, refusal, sheet_text}
 use Rattle.zarpalume.specs.Lines.{refused_line, views_line, need_lines, depth_lines, reach_line}
 
@@ -39,19 +39,17 @@ verdict_of m next outputs views =
     ++ (need_lines m.ids (list_of m.machine next outputs blank) (pairs needs.outcome)
     ++ (depth_lines m.ids needs.depths m.machine.sizes.boxes ++ reach_line (reached needs.outcome)))
 
--- the line of a refused answer
-abbrev pub refusal_of : Answer → List ℕ
-refusal_of (answers.Refused number line) = refused_line number line
-refusal_of (answers.Model z) = []
+-- the line of a refusal
+abbrev pub refusal_of : model_refused.Refused → List ℕ
+refusal_of r = refused_line (number_of r.refusal) r.line
 
 -- its line number fits
-abbrev pub LineSmall : Answer → Type 0
-LineSmall (answers.Refused number line) = line < 65536
-LineSmall (answers.Model z) = Unit {0}
+abbrev pub LineSmall : model_refused.Refused → Type 0
+LineSmall r = r.line < 65536
 
 -- one line for a refusal; else the verdict on the model
 abbrev pub said : Reading → List ℕ
-said (refusal number line) = refused_line number line
+said (refusal e line) = refused_line (number_of e) line
 said (model z p) =
     verdict_of (model_of z p) p.drawn.steps.next p.drawn.steps.outputs p.drawn.views
 

@@ -10,9 +10,8 @@ ghost use Rattle.text.specs.Written.{Written};
 ghost use Rattle.zarpalume.specs.Lines.{views_line, Small, need_lines, depth_lines, reach_line};
 ghost use Rattle.zarpalume.specs.Verdict.{pairs, reached, Few, verdict_of, refusal_of, LineSmall, call, call_of};
 
-use model::{Machine, Model};
+use model::{Model, Refused};
 use needs::{Needs, Outcome};
-use sheet::Answer;
 use views::Judgement;
 
 // Every byte made 0.
@@ -85,16 +84,12 @@ fn put_verdict(
 }
 
 // A refusal is one line.
-fn put_refusal(verdict: &mut [u8], answer: Answer) -> usize
-    requires { (length verdict.old ≡ VERDICT_BYTES) × LineSmall answer }
-    ensures { Written verdict.old verdict.new result (refusal_of answer) × (result ≤ VERDICT_BYTES) }
+fn put_refusal(verdict: &mut [u8], refused: Refused) -> usize
+    requires { (length verdict.old ≡ VERDICT_BYTES) × LineSmall refused }
+    ensures { Written verdict.old verdict.new result (refusal_of refused) × (result ≤ VERDICT_BYTES) }
 {
-    match answer {
-        Answer::Refused { number, line } => {
-            lines::put_pair(verdict, b"refused\t", number as u32, line as u32)
-        }
-        Answer::Model(_) => 0,
-    }
+    let number = u32::from(refused.refusal.number());
+    lines::put_pair(verdict, b"refused\t", number, refused.line as u32)
 }
 
 // The verdict on a sheet, into a buffer of exactly VERDICT_BYTES, with zeros after it; any other buffer is left alone, and 0 answered.
@@ -109,14 +104,8 @@ pub fn zarpalume_verdict(sheet: &[u8], verdict: &mut [u8]) -> usize
     let mut next = [0u16; model::NEXT_ENTRIES];
     let mut outputs = [0u16; model::OUTPUT_ENTRIES];
     let mut views = [0u16; model::VIEW_ENTRIES];
-    let read = sheet::read(sheet, &mut next, &mut outputs, &mut views);
-    let answer = read.answer;
-    let ids = read.ids;
-    let owners = read.owners;
-    let arrows = read.arrows;
-    let Answer::Model(sizes) = answer else {
-        return put_refusal(verdict, answer);
-    };
-    let model = Model::new(Machine::new(sizes, owners), ids, arrows);
-    put_verdict(verdict, model, &next, &outputs, &views)
+    match sheet::read(sheet, &mut next, &mut outputs, &mut views) {
+        Ok(model) => put_verdict(verdict, model, &next, &outputs, &views),
+        Err(refused) => put_refusal(verdict, refused),
+    }
 }
