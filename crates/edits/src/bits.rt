@@ -6,25 +6,22 @@ fn power(p: usize) -> u32
     requires { p < 32 }
     ensures { result ≡ 2 ^ p }
 {
-    1u32 << (p as u32)
+    1 << p
 }
 
-// 1 if position k is in the set, else 0.
+// 1 if position k is in the set, else 0: a number and no bool, since `put_of` puts it into a word, as `bit` and `put` of `laws` have it.
 pub(crate) fn bit_of(set: u32, k: usize) -> u32
     requires { k < 32 }
     ensures { result ≡ bit k set }
 {
-    (set >> (k as u32)) % 2
+    (set >> k) % 2
 }
 
 // Whether the set's positions are below n: a word's own width needs no test.
 pub(crate) fn within(set: u32, n: usize) -> bool
     ensures { result ≡ ltb set (2 ^ n) }
 {
-    if n >= 32 {
-        return true;
-    }
-    set < power(n)
+    n >= 32 || set < power(n)
 }
 
 // The set with position k, which isn't in it.
