@@ -10,14 +10,13 @@ use Rattle.needs.proofs.Demand as needs
 use Rattle.demands.specs.Demands.{Demand1, Demand2, Demand3}
 use Rattle.demands.specs.Ours.{ours}
 use Rattle.demands.proofs.Refusing.{judge_lengths, needed_lengths, judge_refused, needed_refused, reached_refused, purged_refused}
-use Rattle.demands.proofs.Reading.{read_refused, read_whole, label_refused, label_whole, verdict_refused}
+use Rattle.demands.proofs.Reading.{read_refused, read_whole, label_refused, verdict_refused}
 
 pub demand_1 : Demand1 ours
 demand_1 = record {
   read = read_refused;
   read_then = read_whole;
   label = label_refused;
-  label_then = λ t position n l. label_whole t position;
   judge = judge_refused;
   needed = λ m next outputs list. (needed_refused m next outputs list).0;
   needed_then = λ m next outputs list. (needed_refused m next outputs list).1;

@@ -32,7 +32,9 @@ use Rattle.sheet.specs.Numbers.{each, numbers, record_of}
 use Rattle.sheet.specs.Records.{plain, sheet_line, box_line, act_line, go_line, flow_line, view_line}
 use Rattle.sheet.specs.Phases.{phase, flows}
 use Rattle.sheet.specs.Reading.{Reading, model, refusal, parts, drawing, zeros, sheet_lines, sheet_text}
-use Rattle.sheet.specs.declared.Answer.TheVariants as sheets
+use Rattle.std.specs.Prelude.{Err}
+use Rattle.model.specs.Refusal.{refused_as}
+use Rattle.model.specs.declared.refusal.Refusal as named
 use Rattle.sheet.proofs.Table.{means_refused}
 use Rattle.cases.specs.Cases.{Case, p1, p2, p3, p4, p12}
 use Rattle.cases.specs.Meets.{next, outputs, views, machine, arrows_of, NeedsThese, DepthsAre, ReachIs}
@@ -75,13 +77,13 @@ unfolding is_model sheet_text sheet_lines lines onto sheet_line record_of same f
 smallest_read = refl
 
 pub refuses_every_sheet : (calls : Calls) → Demand1 calls →
-    ((t : Bytes) (next outputs views : Table) → (n l : ℕ) × ((calls.read t next outputs views).sheet.answer ≡ sheets.Refused n l)) → ⊥
+    ((t : Bytes) (next outputs views : Table) → (n : named.Refusal) × (l : ℕ) × ((calls.read t next outputs views).answer ≡ Err (refused_as n l))) → ⊥
 unfolding is_model
 refuses_every_sheet calls d h =
     let r = h smallest (zeros NEXT_ENTRIES) (zeros OUTPUT_ENTRIES) (zeros VIEW_ENTRIES) in
     told ((d.read smallest (zeros NEXT_ENTRIES) (zeros OUTPUT_ENTRIES) (zeros VIEW_ENTRIES) r.0 r.1).1 r.2)
   where
-    told : {n l : ℕ} → TextRefusal (ThreeTables (zeros NEXT_ENTRIES) (zeros OUTPUT_ENTRIES) (zeros VIEW_ENTRIES)) smallest n l → ⊥
+    told : {n : named.Refusal} {l : ℕ} → TextRefusal (ThreeTables (zeros NEXT_ENTRIES) (zeros OUTPUT_ENTRIES) (zeros VIEW_ENTRIES)) smallest n l → ⊥
     told (ten k) = k (zeros_long NEXT_ENTRIES, zeros_long OUTPUT_ENTRIES, zeros_long VIEW_ENTRIES)
     told (text k r) = not_both smallest_read (ap is_model (means_refused smallest _ _ r))
 

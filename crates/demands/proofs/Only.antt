@@ -1,5 +1,7 @@
 -- The demands leave nothing open: whoever meets them answers every input as our calls do.
 -- Assumes nothing.
+use Rattle.model.specs.declared.refusal.Refusal as named
+use Rattle.model.specs.declared.refusal.Refusal.TheVariants as why
 use mathlib.Core.Path.{◌≡◌, refl, sym, ap, ap₂, ◌∙◌}
 use mathlib.Core.Logic.{◌↔◌}
 use mathlib.Core.Bool.{Bool, true}
@@ -105,9 +107,9 @@ module _ (M : noninterference.Machine) (c : Closed M (λ s. s < M.states)) (x y 
 module _ (calls : Calls) (d1 : Demand1 calls) (d2 : Demand2 calls.judge) (d3 : Demand3 calls.needed) (a : Answers calls) where
   read_only : (t : Bytes) (next outputs views : Table) → calls.read t next outputs views ≡ ours.read t next outputs views
   read_only t next outputs views =
-      decided (judge_lengths next outputs views) (λ h. as_read h (sheet_text t) refl) (λ k. as_refused 10 0 (ten k))
+      decided (judge_lengths next outputs views) (λ h. as_read h (sheet_text t) refl) (λ k. as_refused why.Length 0 (ten k))
     where
-      as_refused : (n l : ℕ) → TextRefusal (ThreeTables next outputs views) t n l → calls.read t next outputs views ≡ ours.read t next outputs views
+      as_refused : (n : named.Refusal) (l : ℕ) → TextRefusal (ThreeTables next outputs views) t n l → calls.read t next outputs views ≡ ours.read t next outputs views
       as_refused n l r =
           d1.read_then t next outputs views n l ((d1.read t next outputs views n l).0 r)
           ∙ sym (demand_1.read_then t next outputs views n l ((demand_1.read t next outputs views n l).0 r))
@@ -120,14 +122,14 @@ module _ (calls : Calls) (d1 : Demand1 calls) (d2 : Demand2 calls.judge) (d3 : D
   label_only : (t : Bytes) (position : ℕ) → calls.label t position ≡ ours.label t position
   label_only t position = go (sheet_text t) refl
     where
-      as_refused : (n l : ℕ) → LabelRefusal t position n l → calls.label t position ≡ ours.label t position
-      as_refused n l r = d1.label_then t position n l r ∙ sym (demand_1.label_then t position n l r)
+      as_refused : (n : named.Refusal) (l : ℕ) → LabelRefusal t position n l → calls.label t position ≡ ours.label t position
+      as_refused n l r = (d1.label t position n l).0 r ∙ sym ((demand_1.label t position n l).0 r)
 
       go : (rd : Reading) → sheet_text t ≡ rd → calls.label t position ≡ ours.label t position
       go (model z p) e =
           by_test (ltb position z.boxes)
           (λ b. let h = ltb-true _ _ b in a.label t position z p e h ∙ sym (answers.label t position z p e h))
-          (λ b. as_refused 13 0 (thirteen z p e (ltb-false _ _ b)))
+          (λ b. as_refused why.Range 0 (thirteen z p e (ltb-false _ _ b)))
       go (refusal n l) e = as_refused n l (text (refused_means t n l e))
 
   judge_only : (m : Model) (next outputs views : Table) → calls.judge m next outputs views ≡ ours.judge m next outputs views

@@ -4,6 +4,8 @@ use Rattle.model.specs.declared.Machine.{Machine}
 use Rattle.model.specs.declared.Model.{Model}
 use Rattle.sheet.specs.Reading as sheets
 use Rattle.sheet.specs.Label.{Label}
+use Rattle.model.specs.declared.refusal.Refused.{Refused}
+use Rattle.std.specs.Prelude as std
 use Rattle.views.specs.declared.Judgement.{Judgement}
 use Rattle.needs.specs.declared.Needs.{Needs}
 use Rattle.model.specs.declared.Kind.{Kind}
@@ -20,7 +22,7 @@ Table = List ℕ
 -- text and tables; text and position; model and tables; machine, tables and list; model, kind, position, run and buffer; machine and table; text and buffer
 pub record Calls : Type 0 where
   pub read : Bytes → Table → Table → Table → sheets.Outcome
-  pub label : Bytes → ℕ → Label
+  pub label : Bytes → ℕ → std.Result Label Refused
   pub judge : Model → Table → Table → Table → Judgement
   pub needed : Machine → Table → Table → Table → Needs × Table
   pub purged : Model → Kind → ℕ → Bytes → Bytes → Result

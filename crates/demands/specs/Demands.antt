@@ -1,4 +1,7 @@
 -- The three demands: what the calls must answer, whoever answers. Everything that is named here stands in `specs/`.
+use Rattle.model.specs.declared.refusal.Refusal as named
+use Rattle.model.specs.Refusal.{number_of, refused_as}
+use Rattle.std.specs.Prelude.{Err}
 use Rattle.std.specs.Prelude.{◌≡◌, ◌↔◌, false, [], ◌∷◌, ◌++◌, ℕ, ◌<◌, length, get_or, replicate}
 use Rattle.std.proofs.Math.Option.{some}
 use Rattle.noninterference.specs.Purge.{intransitive}
@@ -12,9 +15,7 @@ use Rattle.model.specs.declared.Machine.{Machine}
 use Rattle.model.specs.declared.Model.{Model}
 use Rattle.text.specs.Lines.{lines}
 use Rattle.sheet.specs.Meaning.{RefusedText}
-use Rattle.sheet.specs.Reading.{model_of, Reading, model, refusal, sheet_text, outcome, refused_as}
-use Rattle.sheet.specs.declared.Answer.TheVariants as sheets
-use Rattle.sheet.specs.Label.{labelled}
+use Rattle.sheet.specs.Reading.{model_of, Reading, model, refusal, sheet_text, outcome}
 use Rattle.views.specs.Judgement.{answer}
 use Rattle.views.specs.declared.Judgement.{Judgement}
 use Rattle.views.specs.declared.Judgement.TheVariants as judgements
@@ -34,13 +35,12 @@ use Rattle.demands.specs.Told.{told}
 
 -- Demand 1: bad input, and no other, gets its refusal's number and line; every other number is then 0, and the lent buffers are as said
 pub record Demand1 (calls : Calls) : Type 0 where
-  pub read : (t : Bytes) (next outputs views : Table) (n l : ℕ) →
-      TextRefusal (ThreeTables next outputs views) t n l ↔ ((calls.read t next outputs views).sheet.answer ≡ sheets.Refused n l)
-  pub read_then : (t : Bytes) (next outputs views : Table) (n l : ℕ) → (calls.read t next outputs views).sheet.answer ≡ sheets.Refused n l →
-      calls.read t next outputs views ≡ outcome (refused_as n l) (left n next) (left n outputs) (left n views)
-  pub label : (t : Bytes) (position n l : ℕ) →
-      LabelRefusal t position n l ↔ ((0 < n) × ((calls.label t position).number ≡ n) × ((calls.label t position).line ≡ l))
-  pub label_then : (t : Bytes) (position n l : ℕ) → LabelRefusal t position n l → calls.label t position ≡ labelled [] 0 n l
+  pub read : (t : Bytes) (next outputs views : Table) (n : named.Refusal) (l : ℕ) →
+      TextRefusal (ThreeTables next outputs views) t n l ↔ ((calls.read t next outputs views).answer ≡ Err (refused_as n l))
+  pub read_then : (t : Bytes) (next outputs views : Table) (n : named.Refusal) (l : ℕ) → (calls.read t next outputs views).answer ≡ Err (refused_as n l) →
+      calls.read t next outputs views ≡ outcome (Err (refused_as n l)) (left (number_of n) next) (left (number_of n) outputs) (left (number_of n) views)
+  pub label : (t : Bytes) (position : ℕ) (n : named.Refusal) (l : ℕ) →
+      LabelRefusal t position n l ↔ (calls.label t position ≡ Err (refused_as n l))
   pub judge : (m : Model) (next outputs views : Table) (n l : ℕ) →
       TableRefusal (ThreeTables next outputs views) (GoodModel m next) n l ↔ (calls.judge m next outputs views ≡ judgements.Refused n l)
   pub needed : (m : Machine) (next outputs list : Table) (n l : ℕ) →
@@ -86,6 +86,6 @@ Meets (model z p) =
 
 -- a refusal is its line; the first line is `views`, tab, `accepted` exactly where the views meet the conditions; and equal bytes tell the same
 pub record DemandOnBytes (verdict : Bytes → Bytes) : Type 0 where
-  pub refused : (t : Bytes) (n l : ℕ) → RefusedText t n l → verdict t ≡ refused_line n l
+  pub refused : (t : Bytes) (n : named.Refusal) (l : ℕ) → RefusedText t n l → verdict t ≡ refused_line (number_of n) l
   pub accepted : (t : Bytes) → (get_or (lines (verdict t)) 0 [] ≡ words.views ++ (9 ∷ words.accepted)) ↔ Meets (sheet_text t)
   pub same : (t t' : Bytes) → verdict t ≡ verdict t' → told (sheet_text t) ≡ told (sheet_text t')

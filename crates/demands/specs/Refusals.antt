@@ -1,4 +1,6 @@
 -- What is refused, with which number and line.
+use Rattle.model.specs.declared.refusal.Refusal as named
+use Rattle.model.specs.declared.refusal.Refusal.TheVariants as why
 use Rattle.std.specs.Prelude.{◌≡◌, List, ℕ, ◌<◌, ◌≤◌, eqb, length, get_or, replicate}
 use Rattle.laws.specs.Choice.{choose}
 use Rattle.model.specs.Limits.{BOXES, NEXT_ENTRIES, OUTPUT_ENTRIES, VIEW_ENTRIES, LIST_ENTRIES, RUN_ACTIONS}
@@ -38,15 +40,15 @@ abbrev pub TableRefusal : Type 0 → Type 0 → ℕ → ℕ → Type 0
 TableRefusal lengths good n l = Refusal lengths good (Unit {0}) n l
 
 -- a lent buffer's length, then the text, as the table of refusals says
-pub data TextRefusal (lengths : Type 0) (t : Bytes) : ℕ → ℕ → Type 0 where
-  ten : ¬ lengths → TextRefusal lengths t 10 0
-  text : {n l : ℕ} → lengths → RefusedText t n l → TextRefusal lengths t n l
+pub data TextRefusal (lengths : Type 0) (t : Bytes) : named.Refusal → ℕ → Type 0 where
+  ten : ¬ lengths → TextRefusal lengths t why.Length 0
+  text : {n : named.Refusal} {l : ℕ} → lengths → RefusedText t n l → TextRefusal lengths t n l
 
 -- the text, then the position
-pub data LabelRefusal (t : Bytes) (position : ℕ) : ℕ → ℕ → Type 0 where
-  text : {n l : ℕ} → RefusedText t n l → LabelRefusal t position n l
+pub data LabelRefusal (t : Bytes) (position : ℕ) : named.Refusal → ℕ → Type 0 where
+  text : {n : named.Refusal} {l : ℕ} → RefusedText t n l → LabelRefusal t position n l
   thirteen : (z : Sizes) (p : Parts) → sheet_text t ≡ model z p → z.boxes ≤ position →
-      LabelRefusal t position 13 0
+      LabelRefusal t position why.Range 0
 
 -- 10 leaves a lent buffer as it was, any other refusal makes it zero
 unfoldable pub left : ℕ → List ℕ → List ℕ
