@@ -106,6 +106,7 @@ fn fits_delete(e: Entry, list: &[BoxRecord; model::BOXES]) -> bool
         && super::bits::within(e.into, n + 1)
 }
 
+// An arrow between boxes, whose bit is b, a number as `bit_of` gives it.
 fn fits_arrow(e: Entry, list: &[BoxRecord; model::BOXES], b: u32) -> bool
     ensures { result ≡ fits_arrow e list.now b }
 {

@@ -43,7 +43,7 @@ fn plan_delete(list: &[BoxRecord; model::BOXES], id: u32) -> Result<Entry, Refus
     })
 }
 
-// The arrow between the boxes with these ids, where its bit is b.
+// The arrow between the boxes with these ids, where its bit is b, a number as `bit_of` gives it.
 fn plan_arrow(
     list: &[BoxRecord; model::BOXES],
     kind: u32,
