@@ -79,7 +79,7 @@ pub(crate) fn column_of(list: &[BoxRecord; model::BOXES], p: usize) -> u32
 {
     let mut column = 0;
     for (k, item) in list.iter().enumerate() {
-        if super::bits::bit_of(item.arrows, p) == 1 {
+        if super::bits::has(item.arrows, p) {
             column = super::bits::with_bit(column, k);
         }
     }
@@ -109,7 +109,7 @@ fn back_at(
         return item;
     }
     let moved = list[unskip_of(p, k)];
-    let b = super::bits::bit_of(into, k);
+    let b = super::bits::has(into, k);
     BoxRecord {
         arrows: super::bits::put_of(moved.arrows, p, b),
         ..moved
