@@ -8,14 +8,14 @@ use Prim.Native.Nat.{ℕ, ◌+◌, ◌*◌, ◌<◌, ◌≤◌}
 use native.Mathlib.Omega.{arith}
 use native.Mathlib.Nat.{not-suc-le-zero, eq-or-lt_of_le}
 use borrow.Author.Count.{below_more}
-use borrow.Author.Tests.{eq-eqb, ne_eqb}
+use borrow.Author.Tests.{eq-eqb, ne_eqb, eqb-true}
 use lib.Dec.{eqb}
 use lib.ListN.{length, set, length-set}
 use lib.Seq.{get_or-set_same, get_or-set_other}
 use Rattle.laws.specs.Choice.{both}
 use Rattle.laws.specs.Range.{Held, first}
 use Rattle.laws.proofs.Tests.{by_test, not_both, both_of, both_true, both_no}
-use Rattle.laws.proofs.Range.{every_held, every_not, held_more, first_at, first_none}
+use Rattle.laws.proofs.Range.{every_at, every_of, every_held, every_not, held_more, first_at, first_none}
 use Rattle.laws.proofs.Cells.{cell, row}
 use Rattle.model.specs.Limits.{STATES, ACTIONS, NEXT_ENTRIES, OUTPUT_ENTRIES}
 use Rattle.needs.specs.Tables.{entry, Steps}

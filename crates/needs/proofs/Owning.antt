@@ -1,6 +1,6 @@
 -- The actions of one box, listed: what they show alike is what all of the box's actions show alike.
 -- Assumes nothing.
-use mathlib.Core.Path.{◌≡◌, sym, ◌∙◌, ap, subst, fun_ext}
+use mathlib.Core.Path.{◌≡◌, refl, sym, ◌∙◌, ap, subst, fun_ext}
 use mathlib.Core.Logic.{⊎_elim}
 use mathlib.Core.Bool.{Bool, true, false}
 use mathlib.Core.List.{List}
@@ -12,13 +12,14 @@ use borrow.Author.Tests.{eq-eqb, ne_eqb, eqb-true}
 use lib.Dec.{eqb}
 use lib.ListN.{length, get_or, set, length-set}
 use lib.Seq.{get_or-set_same, get_or-set_other}
+use Rattle.laws.specs.Choice.{both}
 use Rattle.laws.specs.Range.{Held}
 use Rattle.laws.proofs.Tests.{agree, brings_at, brings_of}
 use Rattle.laws.proofs.Range.{every_at, every_of, every_held, every_not, held_more}
-use Rattle.model.specs.Limits.{ACTIONS, OUTPUT_ENTRIES}
+use Rattle.model.specs.Limits.{STATES, ACTIONS, OUTPUT_ENTRIES}
 use Rattle.needs.specs.Tables.{entry, seen_in}
 use Rattle.needs.specs.Classes.{Led}
-use Rattle.needs.specs.Own.{Owned, Listing, output_in, seen_by}
+use Rattle.needs.specs.Own.{Owned, Listing, output_in, seen_by, output_slot, no_class}
 use Rattle.needs.specs.Laws.{SameBy, seen_at, seen_of}
 
 -- ---- the list is filled

@@ -16,9 +16,9 @@ use Rattle.laws.specs.Choice.{both}
 use Rattle.laws.proofs.Tests.{by_test, not_both, both_of, both_true}
 use Rattle.laws.proofs.Range.{below_suc}
 use Rattle.model.specs.Limits.{STATES}
-use Rattle.needs.specs.Tables.{entry, Steps}
-use Rattle.needs.specs.Classes.{lowest, Missed, Below}
-use Rattle.needs.specs.Starts.{SLOTS, slot_of, Begun, Began}
+use Rattle.needs.specs.Tables.{step_in, entry, Steps}
+use Rattle.needs.specs.Classes.{lowest, agrees, Missed, Below}
+use Rattle.needs.specs.Starts.{SLOTS, slot_of, next_slot, Begun, Began}
 use Rattle.needs.proofs.Classes.{lowest_le, lowest_holds}
 use Rattle.needs.proofs.Looking.{one_of}
 
