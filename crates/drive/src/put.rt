@@ -8,6 +8,7 @@ use views::Fault;
 const ANSWER_BYTES: usize = 65536;
 
 // The first `count` bytes are put.
+#[derive(Drop)]
 pub(crate) struct Answer {
     bytes: [u8; ANSWER_BYTES],
     count: usize,
@@ -68,8 +69,19 @@ impl Answer {
 
     // What a call says: the refusal, and values that are 0 where there is one.
     pub(crate) fn said<const N: usize>(&mut self, said: Result<[usize; N], Refused>) -> Option<()> {
-        self.refusal(said.err())?;
-        self.values(&said.unwrap_or([0usize; N]))
+        match said {
+            Ok(values) => {
+                self.refusal(None)?;
+                self.values(&values)
+            }
+            Err(refused) => {
+                self.refusal(Some(refused))?;
+                for _ in 0..N {
+                    self.n8(0)?;
+                }
+                Some(())
+            }
+        }
     }
 
     // Bytes, or a lent buffer.

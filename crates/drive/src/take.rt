@@ -4,6 +4,7 @@ ghost use Rattle.std.specs.Prelude.{◌≤◌, length, IfSome};
 use model::{ACTIONS, BOXES, Kind, Machine, Model, Sizes};
 
 // The bytes that are not taken yet.
+#[derive(Clone, Copy)]
 pub(crate) struct Request<'r> {
     pub(crate) rest: &'r [u8],
 }
