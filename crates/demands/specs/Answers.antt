@@ -14,7 +14,7 @@ use Rattle.sheet.specs.Label.{label_place, label_of}
 use Rattle.purge.specs.Purged.{kept_of, written}
 use Rattle.model.specs.declared.Kind.{Kind}
 use Rattle.reach.specs.Explored.{moving}
-use Rattle.reach.specs.declared.Outcome.TheVariants.{Found}
+use Rattle.reach.specs.Set.{of_flags}
 use Rattle.zarpalume.specs.Verdict as verdicts
 use Rattle.zarpalume.specs.Verdict.{call}
 use Rattle.demands.specs.Calls.{Bytes, Table, Calls}
@@ -30,7 +30,7 @@ pub record Answers (calls : Calls) : Type 0 where
       length kept ≡ length run → GoodMachine m.machine × GoodDrawing m → Question m position run →
       calls.purged m kind position run kept ≡ written (kept_of m kind position run) (length run)
   pub reached : (m : Machine) (next : Table) → length next ≡ NEXT_ENTRIES → GoodTable m next →
-      calls.reached m next ≡ (Found, tabulate STATES λ s. both (ltb s m.sizes.states) (noninterference.reached (moving m next) s))
+      calls.reached m next ≡ Ok (of_flags (tabulate STATES λ s. both (ltb s m.sizes.states) (noninterference.reached (moving m next) s)))
   pub verdict : (t buffer : Bytes) → length buffer ≡ VERDICT_BYTES →
       calls.verdict t buffer ≡ call (length (verdicts.verdict t)) (verdicts.verdict t ++ replicate (VERDICT_BYTES - length (verdicts.verdict t)) 0)
 

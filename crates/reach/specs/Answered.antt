@@ -10,6 +10,7 @@ use Rattle.model.specs.declared.Machine.{Machine}
 use Rattle.model.specs.declared.refusal.Refusal.TheVariants.{Length, Rules}
 use Rattle.model.specs.declared.refusal.Refused.{Refused}
 use Rattle.reach.specs.Explored.{moving}
+use Rattle.reach.specs.Set.{of_flags}
 use Rattle.reach.specs.declared.Set.{Set}
 
 -- the reachable states, and none where the call is refused
@@ -19,7 +20,7 @@ flags_of m next =
     both (both (eqb (length next) NEXT_ENTRIES) (machine_table_fits m next)) (both (ltb s m.sizes.states) (reached (moving m next) s))
 
 abbrev pub set_of : Machine → List ℕ → Set
-set_of m next = record { flags = flags_of m next }
+set_of m next = of_flags (flags_of m next)
 
 -- refused: a table of another length, and a machine or a next state that breaks the rules
 unfoldable pub answer_of : Machine → List ℕ → Result Set Refused
