@@ -142,7 +142,7 @@ digit_good limit v d h g =
     rw e (simp (le-ltb (48 + d) 48 (omega arith), le-ltb 57 (48 + d) (omega arith), le-ltb limit (v * 10 + d) g))
 
 -- a byte by how far it stands behind the digit 0, where the difference wraps
-module _ (limit v d b : ℕ) (g : b < 256) (w : d ≡ (b + 208) % 256) where
+module _ (limit v d b : ℕ) (g : b < 256) (w : d ≡ (b + 4294967248) % 4294967296) where
   pub digit_far : 9 < d → None ≡ digit limit v b
   unfolding digit
   digit_far h = go (dec_lt b 48)

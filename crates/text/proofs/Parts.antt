@@ -71,6 +71,9 @@ tail_is s i None e z h = z ∙ sym (drop_of_length-le s {i = i} (past h))
     past (inl k) = omega arith
     past (inr k) = absurd (omega arith)
 
+pub tail_at : (s : List ℕ) (i : ℕ) (x : Bor (List ℕ)) → (i ≤ length s) × (length s ≤ length s) × (x.now ≡ slice_range s i (length s)) × (length x.now + i ≡ length s) → x.now ≡ drop i s
+tail_at s i x h = h.2 ∙ take_all (length s - i) (drop i s) (simp length-drop (omega arith))
+
 -- a byte of what is behind a place
 pub byte_is : (s : List ℕ) {r : List ℕ} (i k : ℕ) → r ≡ drop i s → k < length r → (i + k < length s) × (get_or s (i + k) 0 ≡ get_or r k 0)
 byte_is s {r} i k e h =
