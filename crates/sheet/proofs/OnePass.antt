@@ -2,7 +2,7 @@
 use Rattle.std.proofs.Math.ListN.{get_or-eq_default}
 use Rattle.std.proofs.Common.{drop-drop}
 use Rattle.std.proofs.lemmas.List.{take-append-drop}
-use Rattle.std.specs.Prelude.{Ok, Err, Option, Some, None}
+use Rattle.std.specs.Prelude.{Ok, Option, Some, None}
 use Prim.Native.Nat.{ℕ, zero, suc, ◌+◌, ◌-◌, ◌<◌}
 use mathlib.Core.Path.{◌≡◌, refl, sym, ap, ◌∙◌}
 use mathlib.Core.List.{List, [], ◌∷◌, ◌++◌, append_assoc}
@@ -19,11 +19,10 @@ use Rattle.text.specs.Lines.{before, onto, fields, same, end_of, line_at, Ended}
 use Rattle.text.proofs.Digits.{digit_not_low}
 use Rattle.text.proofs.Parts as parts
 use Rattle.sheet.specs.declared.Digits.{Digits}
-use Rattle.model.specs.Refusal.{refused_as}
 use Rattle.sheet.specs.declared.Arrows.TheVariants as arrow
 use Rattle.sheet.specs.Words as words
 use Rattle.sheet.specs.Numbers.{said, four, each, numbers, word, record_of}
-use Rattle.sheet.specs.Records.{Flow, go_limits, view_limits, arrow_limits, go_line, view_line, arrow_line, flow_line, on_flow}
+use Rattle.sheet.specs.Records.{go_limits, view_limits, arrow_limits, go_line, view_line, arrow_line, flow_line}
 use Rattle.sheet.specs.Phases.{taken, taken_by}
 use Rattle.sheet.specs.OnePass.{drawn_to, Standing, NumberAt, MoreAt, NumberRead, MoreRead, Begins, ArrowAt, ArrowRead, flow_at}
 
@@ -279,8 +278,3 @@ quick_two ids t at b r s e p n =
     let a = (rw e at p) in
     let k : Plain words.both = (omega arith, (omega arith, (omega arith, (omega arith, tt)))) in
     rw ((arrow_line_lem words.both k s a).word_is, arrow_says_lem words.both k s a, (arrow_line_lem words.both k s a).next_is)
-
--- the exact way
-pub exact_at : (ids t : List ℕ) (at n : ℕ) {start end next : ℕ} → parts.Found t at start end next → (x : Flow) → flow_line ids (take (end - start) (drop start t)) ≡ x
-    → on_flow x (λ v u. Ok (Some (drawn_to (arrow.One v u) next))) (λ v u. Ok (Some (drawn_to (arrow.Two v u) next))) (λ e. Err (refused_as e n)) (Ok None) ≡ flow_at ids t at n
-exact_at ids t at n p x e = rw (rw (p.start_is, p.end_is) at e, p.next_is)
