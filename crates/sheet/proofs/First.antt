@@ -2,7 +2,6 @@
 use Prim.Native.Nat.{ℕ, ◌+◌, ◌-◌, ◌<◌, ◌≤◌}
 use mathlib.Core.Path.{◌≡◌}
 use mathlib.Core.List.{List, ◌∷◌}
-use native.Mathlib.Omega.{arith}
 use borrow.Author.Tests.{lt-ltb, le-leb, eq-eqb}
 use lib.ListN.{length, get_or, drop, length-replicate}
 use Rattle.model.specs.Made.{sizes_from}
@@ -27,9 +26,6 @@ module _ (t : List ℕ) {x : Taken} (h : taken_by sheet_line t 0 1 ≡ Ok x) whe
 
   pub first_sizes : GoodSizes (sizes_from x.numbers.first x.numbers.second x.numbers.third x.numbers.fourth)
   first_sizes = sheet_good (line_at t 0) from.line_is
-
-  pub first_few : 2 ≤ x.next + 1
-  first_few = omega (arith, from.next_is)
 
 module _ {t : List ℕ} (q : Ended t) (s : Steps) (v : List ℕ) where
   first_line_lem : 0 < length t → lines t ≡ line_at t 0 ∷ lines (drop (end_of 10 t 0 + 1) t)

@@ -1,14 +1,16 @@
 -- Laws of reading in one pass: a number digit by digit, and the line that its numbers make. Assumes nothing.
-use Rattle.std.specs.Prelude.{Ok, Err, Option, Some, None}
+use Rattle.std.proofs.Math.ListN.{get_or-eq_default}
+use Rattle.std.proofs.Common.{drop-drop}
+use Rattle.std.proofs.lemmas.List.{take-append-drop}
+use Rattle.std.specs.Prelude.{Ok, Option, Some, None}
 use Prim.Native.Nat.{ℕ, zero, suc, ◌+◌, ◌-◌, ◌<◌}
 use mathlib.Core.Path.{◌≡◌, refl, sym, ap, ◌∙◌}
 use mathlib.Core.List.{List, [], ◌∷◌, ◌++◌, append_assoc}
 use mathlib.Core.Bool.{Bool, true, false, cond}
 use native.Mathlib.Omega.{arith}
 use native.Mathlib.Decide.{dec_lt}
-use native.Mathlib.Numerals.{add-one}
 use lib.ListN.{length, get_or, set, take, drop, replicate, length-append, length-drop}
-use lib.Seq.{take-length, take-suc, append_snoc, get_or-drop, get_or-append_seam, take-append_seam}
+use lib.Seq.{get_or-drop, get_or-append_seam, take-append_seam}
 use lib.Dec.{eqb}
 use borrow.Author.Tests.{eqb-true, lt-ltb, eq-eqb, ne_eqb}
 use Rattle.laws.specs.Lists.{All}
@@ -17,12 +19,10 @@ use Rattle.text.specs.Lines.{before, onto, fields, same, end_of, line_at, Ended}
 use Rattle.text.proofs.Digits.{digit_not_low}
 use Rattle.text.proofs.Parts as parts
 use Rattle.sheet.specs.declared.Digits.{Digits}
-use Rattle.model.specs.Refusal.{refused_as}
 use Rattle.sheet.specs.declared.Arrows.TheVariants as arrow
-use Rattle.sheet.specs.declared.Taken.{Taken}
 use Rattle.sheet.specs.Words as words
 use Rattle.sheet.specs.Numbers.{said, four, each, numbers, word, record_of}
-use Rattle.sheet.specs.Records.{Flow, go_limits, view_limits, arrow_limits, go_line, view_line, arrow_line, flow_line, on_flow}
+use Rattle.sheet.specs.Records.{go_limits, view_limits, arrow_limits, go_line, view_line, arrow_line, flow_line}
 use Rattle.sheet.specs.Phases.{taken, taken_by}
 use Rattle.sheet.specs.OnePass.{drawn_to, Standing, NumberAt, MoreAt, NumberRead, MoreRead, Begins, ArrowAt, ArrowRead, flow_at}
 
@@ -74,23 +74,27 @@ number_at limit t stop at r e p = (rw e at p)
 pub word_at : (t w : List ℕ) (at b : ℕ) (r : Bool) → r ≡ true → Begins t at w r → b ≡ at + length w + 1 → Standing t 9 at w b
 word_at t w at b r e p f = rw f (rw e at p)
 
--- ---- a word, byte by byte
-pub word_more : (t w : List ℕ) (at i : ℕ) → at + i < length t → i < length w → get_or t (at + i) 0 ≡ get_or w i 0 → drop at t ≡ take i w ++ drop (at + i) t → drop at t ≡ take (i + 1) w ++ drop (at + (i + 1)) t
-word_more t w at i h g e p =
-    let k : at + i + 1 ≡ at + (i + 1) = omega arith in
-    let n : drop (at + i) t ≡ get_or w i 0 ∷ drop (at + (i + 1)) t = parts.at t (at + i) h ∙ rw (e, k) in
-    p
-    ∙ ap (λ s. take i w ++ s) n
-    ∙ sym (rw (add-one i, take-suc w i 0 g) (append_snoc (take i w) (get_or w i 0) (drop (at + suc i) t)))
-
-pub word_end : (t w : List ℕ) (at : ℕ) → at + length w < length t → drop at t ≡ take (length w) w ++ drop (at + length w) t → Begins t at w (eqb (get_or t (at + length w) 0) 9)
-word_end t w at h p = go (eqb (get_or t (at + length w) 0) 9) refl
+-- ---- a word with a tab behind it
+word_stands : (t w rest : List ℕ) (at : ℕ) → rest ≡ drop at t → w ≡ take (length w) rest → get_or rest (length w) 0 ≡ 9 → Standing t 9 at w (at + length w + 1)
+word_stands t w rest at e p n =
+    let h : length w < length rest = go (dec_lt (length w) (length rest)) in
+    let k : at + (length w + 1) ≡ at + length w + 1 = omega arith in
+    let front : rest ≡ w ++ drop (length w) rest = sym (take-append-drop (length w) rest) ∙ ap (λ (s : List ℕ). s ++ drop (length w) rest) (sym p) in
+    record {
+      here = sym e ∙ front ∙ ap (λ (s : List ℕ). w ++ s) (parts.at rest (length w) h ∙ rw (n, e, drop-drop, k));
+      next_is = refl;
+    }
   where
-    go : (b : Bool) → eqb (get_or t (at + length w) 0) 9 ≡ b → Begins t at w b
-    go true e =
-        let n : drop (at + length w) t ≡ 9 ∷ drop (at + length w + 1) t = rw (← eqb-true (get_or t (at + length w) 0) 9 e) (parts.at t (at + length w) h) in
-        record { here = p ∙ ap (λ (s : List ℕ). s ++ drop (at + length w) t) (take-length w) ∙ ap (λ (s : List ℕ). w ++ s) n; next_is = refl }
-    go false e = tt
+    go : Dec (length w < length rest) → length w < length rest
+    go (yes g) = g
+    go (no g) = let z : ◌≡◌ {A = ℕ} 0 9 = sym (get_or-eq_default rest 0 (omega arith)) ∙ n in absurd (omega arith)
+
+pub word_begins : (t w rest : List ℕ) (at b : ℕ) → rest ≡ drop at t → w ≡ take (length w) rest → b ≡ get_or rest (length w) 0 → Begins t at w (eqb b 9)
+word_begins t w rest at b e p n = go (eqb b 9) refl
+  where
+    go : (x : Bool) → eqb b 9 ≡ x → Begins t at w x
+    go true q = word_stands t w rest at e p (sym n ∙ eqb-true b 9 q)
+    go false q = tt
 
 -- ---- plain bytes: no tab and no LF
 abbrev pub Plain : List ℕ → Type 0
@@ -261,21 +265,16 @@ module _ {t ids : List ℕ} {at b v u next : ℕ} (w : List ℕ) (plain : Plain 
   unfolding arrow_line
   arrow_says_lem = rw (arrow_line_lem.says, ← a.from_is, ← a.to_is, lt-ltb v (length ids) a.from_known, lt-ltb u (length ids) a.to_known)
 
-pub quick_one : (ids t : List ℕ) (at b : ℕ) (r : Option Taken) {x : Taken} → Standing t 9 at words.flow b → r ≡ Some x → ArrowRead ids t b r → (n : ℕ) → flow_at ids t at n ≡ Ok (Some (drawn_to (arrow.One x.numbers.first x.numbers.second) x.next))
+pub quick_one : (ids t : List ℕ) (at b : ℕ) (r : Option (ℕ × ℕ × ℕ)) {x : ℕ × ℕ × ℕ} → Standing t 9 at words.flow b → r ≡ Some x → ArrowRead ids t b r → (n : ℕ) → flow_at ids t at n ≡ Ok (Some (drawn_to (arrow.One x.0 x.1) x.2))
 unfolding flow_line same
 quick_one ids t at b r s e p n =
     let a = (rw e at p) in
     let k : Plain words.flow = (omega arith, (omega arith, (omega arith, (omega arith, tt)))) in
     rw ((arrow_line_lem words.flow k s a).word_is, arrow_says_lem words.flow k s a, (arrow_line_lem words.flow k s a).next_is)
 
-pub quick_two : (ids t : List ℕ) (at b : ℕ) (r : Option Taken) {x : Taken} → Standing t 9 at words.both b → r ≡ Some x → ArrowRead ids t b r → (n : ℕ) → flow_at ids t at n ≡ Ok (Some (drawn_to (arrow.Two x.numbers.first x.numbers.second) x.next))
+pub quick_two : (ids t : List ℕ) (at b : ℕ) (r : Option (ℕ × ℕ × ℕ)) {x : ℕ × ℕ × ℕ} → Standing t 9 at words.both b → r ≡ Some x → ArrowRead ids t b r → (n : ℕ) → flow_at ids t at n ≡ Ok (Some (drawn_to (arrow.Two x.0 x.1) x.2))
 unfolding flow_line same
 quick_two ids t at b r s e p n =
     let a = (rw e at p) in
     let k : Plain words.both = (omega arith, (omega arith, (omega arith, (omega arith, tt)))) in
     rw ((arrow_line_lem words.both k s a).word_is, arrow_says_lem words.both k s a, (arrow_line_lem words.both k s a).next_is)
-
--- the exact way
-pub exact_at : (ids t : List ℕ) (at n : ℕ) {start end next : ℕ} → parts.Found t at start end next → (x : Flow) → flow_line ids (take (end - start) (drop start t)) ≡ x
-    → on_flow x (λ v u. Ok (Some (drawn_to (arrow.One v u) next))) (λ v u. Ok (Some (drawn_to (arrow.Two v u) next))) (λ e. Err (refused_as e n)) (Ok None) ≡ flow_at ids t at n
-exact_at ids t at n p x e = rw (rw (p.start_is, p.end_is) at e, p.next_is)

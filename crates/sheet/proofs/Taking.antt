@@ -2,34 +2,22 @@
 use Rattle.model.specs.declared.refusal.Refusal.{Refusal}
 use Rattle.model.specs.declared.refusal.Refusal.TheVariants as why
 use Rattle.std.specs.Prelude.{Ok, Err}
-use Prim.Native.Nat.{ℕ, ◌+◌, ◌-◌, ◌<◌, ◌≤◌}
+use Prim.Native.Nat.{ℕ, ◌+◌, ◌<◌, ◌≤◌}
 use mathlib.Core.Path.{◌≡◌, refl, sym, ap, ◌∙◌}
 use mathlib.Core.List.{List}
 use mathlib.Core.Bool.{Bool, true, false, cond}
 use native.Mathlib.Omega.{arith}
-use borrow.Author.Tests.{ltb-true, ltb-false, lt-ltb, le-ltb}
-use lib.ListN.{length, take, drop}
+use borrow.Author.Tests.{ltb-true, ltb-false}
+use lib.ListN.{length}
 use lib.Dec.{ltb}
 use Rattle.text.specs.Lines.{end_of, line_at}
-use Rattle.text.proofs.Parts.{Found}
 use Rattle.model.specs.declared.refusal.Refused.{Refused}
 use Rattle.model.specs.Refusal.{refused_as}
-use Rattle.sheet.specs.declared.Numbers.{Numbers}
 use Rattle.sheet.specs.declared.Taken.{Taken}
 use Rattle.sheet.specs.Numbers.{Record, on_record}
 use Rattle.sheet.specs.Phases.{taken, taken_by}
 
 module _ (f : List ℕ → Record) (t : List ℕ) (at n : ℕ) where
-  pub none_taken : length t ≤ at → Err (refused_as why.Ended n) ≡ taken_by f t at n
-  none_taken h = rw (le-ltb at (length t) h)
-
-  module _ {start end next : ℕ} (p : Found t at start end next) where
-    pub bad_taken : (x : Refusal) → f (take (end - start) (drop start t)) ≡ Err x → Err (refused_as x n) ≡ taken_by f t at n
-    bad_taken x e = rw (lt-ltb at (length t) p.within, rw (p.start_is, p.end_is) at e)
-
-    pub good_taken : (v : Numbers) → f (take (end - start) (drop start t)) ≡ Ok v → Ok (taken v.first v.second v.third v.fourth next) ≡ taken_by f t at n
-    good_taken v e = rw (lt-ltb at (length t) p.within, rw (p.start_is, p.end_is) at e, p.next_is)
-
   -- a line was taken
   pub record TookFrom (x : Taken) : Type 0 where
     pub within : at < length t

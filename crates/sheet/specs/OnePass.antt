@@ -59,8 +59,8 @@ pub record ArrowAt (ids t : List ℕ) (at v u next : ℕ) : Type 0 where
   pub from_known : v < length ids
   pub to_known : u < length ids
 
-abbrev pub ArrowRead : List ℕ → List ℕ → ℕ → Option Taken → Type 0
-ArrowRead ids t at (Some x) = ArrowAt ids t at x.numbers.first x.numbers.second x.next
+abbrev pub ArrowRead : List ℕ → List ℕ → ℕ → Option (ℕ × ℕ × ℕ) → Type 0
+ArrowRead ids t at (Some x) = ArrowAt ids t at x.0 x.1 x.2
 ArrowRead ids t at None = Unit {0}
 
 abbrev pub drawn_to : Arrows → ℕ → Drawn

@@ -73,9 +73,12 @@ fn record_of(line: &[u8], word: &[u8], limits: &[u32]) -> Result<Numbers, Refusa
 pub(crate) fn position(ids: &[u32], id: u32) -> usize
     ensures { result ≡ position ids.now id }
 {
-    ids.iter()
-        .position(|known| *known == id)
-        .unwrap_or(ids.len())
+    for (k, known) in ids.iter().enumerate() {
+        if *known == id {
+            return k;
+        }
+    }
+    ids.len()
 }
 
 // Is a size 1 to its limit.

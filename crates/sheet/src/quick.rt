@@ -2,7 +2,7 @@
 // the exact way, which alone names refusals.
 ghost use Rattle.std.specs.Prelude.{◌≡◌, ℕ, ◌<◌, ◌≤◌, length};
 ghost use Rattle.model.specs.Limits.{BOXES};
-ghost use Rattle.text.specs.Lines.{before, Ended};
+ghost use Rattle.text.specs.Lines.{Ended};
 ghost use Rattle.sheet.specs.Records.{go_line, view_line};
 ghost use Rattle.sheet.specs.Phases.{taken_by};
 ghost use Rattle.sheet.specs.OnePass.{NumberRead, MoreRead, Begins, Quickly, ArrowRead, flow_at, QuickFlow};
@@ -62,21 +62,12 @@ fn digits_from(text: &[u8], at: usize, stop: u8, limit: u32) -> Option<Digits>
 
 // Do the word and a tab stand at a place.
 fn begins(text: &[u8], at: usize, word: &[u8]) -> bool
-    requires { Ended text.now × (before 10 word.now ≡ length word.now) }
     ensures { Begins text.now at word.now result }
 {
-    if text.len() <= at {
+    let Some(rest) = text.get(at..) else {
         return false;
-    }
-    let mut i = 0;
-    // the text is read up to the first byte that differs, LF at the latest: no look at its length
-    while i < word.len() {
-        if text[at + i] != word[i] {
-            return false;
-        }
-        i += 1;
-    }
-    text[at + i] == b'\t'
+    };
+    rest.starts_with(word) && rest.get(word.len()).copied().unwrap_or(0) == b'\t'
 }
 
 fn quick_go(text: &[u8], at: usize, states: u32, state: u32, action: u32) -> Option<Taken>
@@ -169,7 +160,7 @@ pub(crate) fn take_view(
 }
 
 // The two ids of an arrow from `at` on, as positions.
-fn quick_arrow(text: &[u8], at: usize, ids: &[u32]) -> Option<Taken>
+fn quick_arrow(text: &[u8], at: usize, ids: &[u32]) -> Option<(u32, u32, usize)>
     requires { Ended text.now × (at < length text.now) × (length ids.now ≤ BOXES) }
     ensures { ArrowRead ids.now text.now at result }
 {
@@ -178,15 +169,7 @@ fn quick_arrow(text: &[u8], at: usize, ids: &[u32]) -> Option<Taken>
     let v = super::lines::position(ids, from.value);
     let u = super::lines::position(ids, to.value);
     if v < ids.len() && u < ids.len() {
-        Some(Taken {
-            numbers: Numbers {
-                first: v as u32,
-                second: u as u32,
-                third: 0,
-                fourth: 0,
-            },
-            next: to.next,
-        })
+        Some((v as u32, u as u32, to.next))
     } else {
         None
     }
@@ -197,16 +180,16 @@ fn quick_flow(text: &[u8], at: usize, ids: &[u32]) -> Option<Drawn>
     ensures { QuickFlow (λ n. flow_at ids.now text.now at n) result }
 {
     if begins(text, at, b"flow") {
-        let taken = quick_arrow(text, at + 5, ids)?;
+        let (v, u, next) = quick_arrow(text, at + 5, ids)?;
         Some(Drawn {
-            arrows: Arrows::One(taken.numbers.first, taken.numbers.second),
-            next: taken.next,
+            arrows: Arrows::One(v, u),
+            next,
         })
     } else if begins(text, at, b"both") {
-        let taken = quick_arrow(text, at + 5, ids)?;
+        let (v, u, next) = quick_arrow(text, at + 5, ids)?;
         Some(Drawn {
-            arrows: Arrows::Two(taken.numbers.first, taken.numbers.second),
-            next: taken.next,
+            arrows: Arrows::Two(v, u),
+            next,
         })
     } else {
         None

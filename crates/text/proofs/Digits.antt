@@ -1,5 +1,5 @@
 -- Laws of numbers: one byte more of a number's field, and that reading what was written gives the number. Assumes nothing.
-use Rattle.std.proofs.Common.{◌≡◌, ℕ, zero, suc, ◌+◌, ◌-◌, ◌*◌, ◌/◌, ◌%◌, ◌^◌, ◌<◌, ◌≤◌, Bool, true, false, cond, ◌||◌, eqb, ltb, Option, Some, None, List, [], ◌∷◌, ◌++◌, length, get_or, take, drop, sym, refl, ap, ◌∙◌, pow-suc, arith, length-append, ltb-false, le-ltb, lt-ltb, eq-eqb, ne_eqb}
+use Rattle.std.proofs.Common.{◌≡◌, ℕ, zero, suc, ◌+◌, ◌-◌, ◌*◌, ◌/◌, ◌%◌, ◌^◌, ◌<◌, ◌≤◌, Bool, true, false, cond, ◌||◌, eqb, ltb, Option, Some, None, List, [], ◌∷◌, ◌++◌, length, get_or, take, drop, sym, refl, ap, ◌∙◌, pow-suc, arith, length-append, ltb-false, le-ltb, lt-ltb, ne_eqb}
 use native.Mathlib.Decide.{dec_lt}
 use Rattle.text.specs.declared.Field.{Field}
 use Rattle.text.specs.Number.{on_number, digit, more, number, digits, decimal}
@@ -44,10 +44,6 @@ module _ (limit : ℕ) (l : List ℕ) (i : ℕ) where
     more_here v e = sym (rw (field_here l i h e, end_here l 9 i h e))
 
     module _ (n : get_or l i 0 ≡ 9 → ⊥) where
-      pub more_zero : (v : ℕ) → v ≡ 0 → found None (end_of 9 l i) ≡ more_from limit l i v
-      unfolding more
-      more_zero v z = rw (field_past l i h n) (simp (eq-eqb v 0 z))
-
       pub more_bad : (v : ℕ) → (v ≡ 0 → ⊥) → digit limit v (get_or l i 0) ≡ None → found None (end_of 9 l i) ≡ more_from limit l i v
       unfolding more
       more_bad v z b = rw (field_past l i h n) (simp (ne_eqb v 0 z, b))
@@ -142,7 +138,7 @@ digit_good limit v d h g =
     rw e (simp (le-ltb (48 + d) 48 (omega arith), le-ltb 57 (48 + d) (omega arith), le-ltb limit (v * 10 + d) g))
 
 -- a byte by how far it stands behind the digit 0, where the difference wraps
-module _ (limit v d b : ℕ) (g : b < 256) (w : d ≡ (b + 208) % 256) where
+module _ (limit v d b : ℕ) (g : b < 256) (w : d ≡ (b + 4294967248) % 4294967296) where
   pub digit_far : 9 < d → None ≡ digit limit v b
   unfolding digit
   digit_far h = go (dec_lt b 48)

@@ -1,5 +1,5 @@
 -- Laws of lines and fields, by the place where each starts. Assumes nothing.
-use Rattle.std.proofs.Common.{◌≡◌, ℕ, zero, suc, ◌+◌, ◌-◌, ◌<◌, ◌≤◌, Bool, true, false, cond, ◌&&◌, eqb, ltb, leb, Option, Some, None, List, [], ◌∷◌, length, get_or, take, drop, sym, refl, ap, ◌∙◌, suc-le-suc, zero-le, add-one, arith, length-drop, drop_of_length-le, length-take-le, get_or-drop, drop-cons, drop-drop, ltb-false, ltb-true, eq-eqb, ne_eqb, eqb-true, le-leb}
+use Rattle.std.proofs.Common.{◌≡◌, ℕ, zero, suc, ◌+◌, ◌-◌, ◌<◌, ◌≤◌, Bool, true, false, cond, ◌&&◌, eqb, ltb, leb, Option, Some, None, List, [], ◌∷◌, length, get_or, take, drop, sym, refl, ap, ◌∙◌, suc-le-suc, zero-le, add-one, arith, length-drop, drop_of_length-le, get_or-drop, drop-cons, drop-drop, ltb-false, ltb-true, eq-eqb, ne_eqb, eqb-true, le-leb}
 use native.Mathlib.Decide.{dec_lt}
 use mathlib.Core.Logic.{◌⊎◌, inl, inr}
 use denote.Ref.{Bor}
@@ -70,6 +70,9 @@ tail_is s i None e z h = z ∙ sym (drop_of_length-le s {i = i} (past h))
     past : (length s < i) ⊎ (length s < length s) → length s ≤ i
     past (inl k) = omega arith
     past (inr k) = absurd (omega arith)
+
+pub tail_at : (s : List ℕ) (i : ℕ) (x : Bor (List ℕ)) → (i ≤ length s) × (length s ≤ length s) × (x.now ≡ slice_range s i (length s)) × (length x.now + i ≡ length s) → x.now ≡ drop i s
+tail_at s i x h = h.2 ∙ take_all (length s - i) (drop i s) (simp length-drop (omega arith))
 
 -- a byte of what is behind a place
 pub byte_is : (s : List ℕ) {r : List ℕ} (i k : ℕ) → r ≡ drop i s → k < length r → (i + k < length s) × (get_or s (i + k) 0 ≡ get_or r k 0)
@@ -143,9 +146,6 @@ fields_next l i h =
 -- the first field, which is no longer than its line
 pub first_field : (l : List ℕ) → field_from l 0 ≡ get_or (fields l) 0 []
 first_field l = sym (rw (fields_all l, fields_next l 0 (omega arith)))
-
-pub field_length : (l : List ℕ) → length (get_or (fields l) 0 []) ≤ length l
-field_length l = rw (← first_field l, length-take-le (before 9 l) l (before_le 9 l)) (before_le 9 l)
 
 pub same_is : (a b : List ℕ) → same a b ≡ true → a ≡ b
 unfolding same

@@ -78,9 +78,12 @@ pub fn starts(line: &[u8], word: &[u8]) -> bool
 pub fn grown(limit: u32, value: u32, byte: u8) -> Option<u32>
     ensures { result ≡ digit limit value byte }
 {
-    let d = byte.wrapping_sub(b'0');
+    let d = u32::from(byte).wrapping_sub(48);
+    if 9 < d {
+        return None;
+    }
     let v = u64::from(value) * 10 + u64::from(d);
-    if d <= 9 && v <= u64::from(limit) {
+    if v <= u64::from(limit) {
         Some(v as u32)
     } else {
         None

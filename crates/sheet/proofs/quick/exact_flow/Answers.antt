@@ -1,10 +1,7 @@
 -- `sheet::quick::exact_flow` meets its contract. Assumes nothing.
 use Rattle.std.proofs.Common.{sym, ◌∙◌, arith}
-use Rattle.text.proofs.Parts.{end_within, line_found, line_ended}
+use Rattle.text.proofs.Parts.{end_within, line_found}
 use Rattle.sheet.proofs.quick.exact_flow.Goals as goal
-
-pub returns-in_default : goal.returns-in_default
-returns-in_default c = let z = line_ended c.args.text.now _ (sym c.line_from.ensures ∙ c.in_default.is) in absurd (omega arith)
 
 pub slice_bounds-flow_line-end : goal.slice_bounds-flow_line-end
 slice_bounds-flow_line-end c =

@@ -1,15 +1,9 @@
 -- `sheet::quick::quick_go` meets its contract. Assumes nothing.
 use Prim.Native.Nat.{◌+◌}
-use mathlib.Core.Path.{refl}
 use native.Mathlib.Omega.{arith}
-use Rattle.text.specs.Lines.{before}
 use Rattle.sheet.specs.Words as words
 use Rattle.sheet.proofs.OnePass.{goes_on, number_at, word_at, ends, onward, line_of, quick_go}
 use Rattle.sheet.proofs.quick.quick_go.Goals as goal
-
-pub begins-requires : goal.begins-requires
-unfolding before
-begins-requires c = (c.requires, refl)
 
 pub overflow_add-at : goal.overflow_add-at
 overflow_add-at c = omega (arith, goes_on c.requires (word_at _ words.go _ (c.args.at + 3) c.begins.result c.if-begins.true c.begins.ensures (omega arith)) (λ e. omega arith))
