@@ -130,17 +130,21 @@ impl Answer {
             Err(Fault::Output { action, s, t }) => {
                 (None, 1, [model.machine.owner(action), action, s, t])
             }
-            Err(Fault::Respect {
-                position,
-                action,
-                s,
-            }) => (None, 2, [position, action, s, 0]),
-            Err(Fault::Step {
-                position,
-                action,
-                s,
-                t,
-            }) => (None, 3, [position, action, s, t]),
+            Err(
+                Fault::Respect {
+                    position,
+                    action,
+                    s,
+                },
+            ) => (None, 2, [position, action, s, 0]),
+            Err(
+                Fault::Step {
+                    position,
+                    action,
+                    s,
+                    t,
+                },
+            ) => (None, 3, [position, action, s, t]),
             Err(Fault::Refused(refused)) => (Some(refused), 0, [0usize; 4]),
         };
         self.refusal(refused)?;

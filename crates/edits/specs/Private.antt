@@ -1,5 +1,5 @@
 -- What private functions promise each other. Nobody has to believe these: no public contract mentions them.
-use Rattle.std.specs.Prelude.{◌≡◌, List, ℕ, Option, Some, None, ◌<◌, ◌^◌, eqb}
+use Rattle.std.specs.Prelude.{◌≡◌, Bool, true, false, List, ℕ, Option, Some, None, ◌<◌, ◌^◌, eqb}
 use Rattle.laws.specs.Choice.{choose}
 use Rattle.laws.specs.Bits.{bit}
 use Rattle.model.specs.Limits.{BOXES}
@@ -16,6 +16,11 @@ said p = past p.count p.words.now
 -- a place, where there is one
 abbrev pub found : ℕ → Option ℕ
 found k = choose (eqb k BOXES) None (Some k)
+
+-- a place's bit, by whether it is in the set
+abbrev pub one_if : Bool → ℕ
+one_if true = 1
+one_if false = 0
 
 -- the arrows of every record leave room for one position more
 pub record Small (list : List BoxRecord) : Type 0 where

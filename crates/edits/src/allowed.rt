@@ -15,7 +15,7 @@ fn is_row(p: usize, set: u32) -> bool
     requires { p < BOXES }
     ensures { result ≡ row_of p set }
 {
-    super::bits::within(set, model::BOXES) && super::bits::bit_of(set, p) == 0
+    super::bits::within(set, model::BOXES) && !super::bits::has(set, p)
 }
 
 impl Entry {
@@ -80,7 +80,7 @@ fn is_box(list: &[BoxRecord; model::BOXES], past: Past, n: usize, k: usize) -> b
     super::boxes::place_of(list, item.id) == Some(k)
         && !past.deletes(item.id)
         && super::bits::within(item.arrows, n)
-        && super::bits::bit_of(item.arrows, k) == 0
+        && !super::bits::has(item.arrows, k)
 }
 
 #[tactic(auto, unfolding(laws::specs::Choice::both, laws::specs::Choice::choose, crate::specs::Allowed::good_at))]

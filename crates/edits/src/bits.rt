@@ -1,6 +1,7 @@
 // Sets of positions as words.
-ghost use Rattle.std.specs.Prelude.{◌≡◌, ◌+◌, ◌-◌, ◌<◌, ◌^◌, ltb};
+ghost use Rattle.std.specs.Prelude.{◌≡◌, ◌+◌, ◌-◌, ◌<◌, ◌^◌, not, eqb, ltb};
 ghost use Rattle.laws.specs.Bits.{bit, cut, put};
+ghost use Rattle.edits.specs.Private.{one_if};
 
 fn power(p: usize) -> u32
     requires { p < 32 }
@@ -9,12 +10,14 @@ fn power(p: usize) -> u32
     1 << p
 }
 
-// 1 if position k is in the set, else 0: a number and no bool, since `put_of` puts it into a word, as `bit` and `put` of `laws` have it.
-pub(crate) fn bit_of(set: u32, k: usize) -> u32
+// Whether position k is in the set.
+pub(crate) fn has(set: u32, k: usize) -> bool
     requires { k < 32 }
-    ensures { result ≡ bit k set }
+    ensures within { result ≡ eqb (bit k set) 1 }
+    ensures without { not result ≡ eqb (bit k set) 0 }
+    ensures number { one_if result ≡ bit k set }
 {
-    (set >> k) % 2
+    (set >> k) % 2 == 1
 }
 
 // Whether the set's positions are below n: a word's own width needs no test.
@@ -49,11 +52,11 @@ pub(crate) fn cut_of(set: u32, p: usize) -> u32
     set % low + set / low / 2 * low
 }
 
-// Position p put in, with bit b: those from it on move up.
-pub(crate) fn put_of(set: u32, p: usize, b: u32) -> u32
-    requires { (p < 32) × ((b < 2) × (set < 2 ^ 31)) }
-    ensures { result ≡ put p b set }
+// Position p put in, in the set or not: those from it on move up.
+pub(crate) fn put_of(set: u32, p: usize, b: bool) -> u32
+    requires { (p < 32) × (set < 2 ^ 31) }
+    ensures { result ≡ put p (one_if b) set }
 {
     let low = power(p);
-    set % low + (set / low * 2 + b) * low
+    set % low + (set / low * 2 + u32::from(b)) * low
 }

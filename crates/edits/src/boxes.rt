@@ -79,7 +79,7 @@ pub(crate) fn column_of(list: &[BoxRecord; model::BOXES], p: usize) -> u32
 {
     let mut column = 0;
     for (k, item) in list.iter().enumerate() {
-        if super::bits::bit_of(item.arrows, p) == 1 {
+        if super::bits::has(item.arrows, p) {
             column = super::bits::with_bit(column, k);
         }
     }
@@ -88,8 +88,8 @@ pub(crate) fn column_of(list: &[BoxRecord; model::BOXES], p: usize) -> u32
 
 fn unskip_of(p: usize, k: usize) -> usize
     requires { (k < BOXES) × (k ≡ p → ⊥) }
-    ensures value { result ≡ unskip p k }
-    ensures upper_bound { result < BOXES }
+    ensures moved { result ≡ unskip p k }
+    ensures bound { result < BOXES }
 {
     if k < p { k } else { k - 1 }
 }
@@ -102,14 +102,14 @@ fn back_at(
     k: usize,
 ) -> BoxRecord
     requires small { Small list.now }
-    requires p_bound { (p < BOXES) × (k < BOXES) }
+    requires places { (p < BOXES) × (k < BOXES) }
     ensures { result ≡ back_at list.now p item into k }
 {
     if k == p {
         return item;
     }
     let moved = list[unskip_of(p, k)];
-    let b = super::bits::bit_of(into, k);
+    let b = super::bits::has(into, k);
     BoxRecord {
         arrows: super::bits::put_of(moved.arrows, p, b),
         ..moved
@@ -124,7 +124,7 @@ pub(crate) fn with_box(
     into: u32,
 ) -> [BoxRecord; model::BOXES]
     requires small { Small list.now }
-    requires p_bound { p < BOXES }
+    requires place { p < BOXES }
     ensures { result ≡ with_box list.now p item into }
 {
     std::array::from_fn(|k| back_at(list, p, item, into, k))

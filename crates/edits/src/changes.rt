@@ -5,7 +5,7 @@ ghost use Rattle.model.specs.Limits.{BOXES};
 ghost use Rattle.edits.specs.Records.{at};
 ghost use Rattle.edits.specs.Done.{new_box, drawn, erased, done, undone};
 ghost use Rattle.edits.specs.Fits.{alone, fits_add, fits_delete, fits_arrow, fits};
-ghost use Rattle.edits.specs.Private.{Doable, Undoable};
+ghost use Rattle.edits.specs.Private.{one_if, Doable, Undoable};
 
 use super::{BoxRecord, Entry};
 
@@ -106,13 +106,14 @@ fn fits_delete(e: Entry, list: &[BoxRecord; model::BOXES]) -> bool
         && super::bits::within(e.into, n + 1)
 }
 
-fn fits_arrow(e: Entry, list: &[BoxRecord; model::BOXES], b: u32) -> bool
-    ensures { result ≡ fits_arrow e list.now b }
+// Between boxes, an arrow that stands, or one that doesn't.
+fn fits_arrow(e: Entry, list: &[BoxRecord; model::BOXES], stands: bool) -> bool
+    ensures { result ≡ fits_arrow e list.now (one_if stands) }
 {
     let n = super::boxes::boxes_of(list);
     let i = e.at as usize;
     let j = e.to as usize;
-    i < n && j < n && super::bits::bit_of(list[i].arrows, j) == b
+    i < n && j < n && super::bits::has(list[i].arrows, j) == stands
 }
 
 // Whether the entry can be undone.
@@ -123,7 +124,7 @@ pub(crate) fn fits_now(e: Entry, list: &[BoxRecord; model::BOXES]) -> bool
     match e.kind {
         super::ADD => fits_add(e, list),
         super::DELETE => fits_delete(e, list),
-        super::DRAW => fits_arrow(e, list, 1),
-        _ => fits_arrow(e, list, 0),
+        super::DRAW => fits_arrow(e, list, true),
+        _ => fits_arrow(e, list, false),
     }
 }

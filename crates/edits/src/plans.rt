@@ -1,7 +1,7 @@
 // The entry that does what is asked for, or why it is refused.
 ghost use Rattle.std.specs.Prelude.{◌≡◌};
 ghost use Rattle.edits.specs.Records.{place};
-ghost use Rattle.edits.specs.Private.{said};
+ghost use Rattle.edits.specs.Private.{one_if, said};
 ghost use Rattle.edits.specs.Plan.{plan_delete, plan_arrow, plan_change, plan};
 ghost use Rattle.edits.specs.declared.Change.TheVariants.{Add};
 
@@ -43,19 +43,19 @@ fn plan_delete(list: &[BoxRecord; model::BOXES], id: u32) -> Result<Entry, Refus
     })
 }
 
-// The arrow between the boxes with these ids, where its bit is b.
+// The arrow between the boxes with these ids, where it stands, or where it doesn't.
 fn plan_arrow(
     list: &[BoxRecord; model::BOXES],
     kind: u32,
-    b: u32,
+    stands: bool,
     source: u32,
     target: u32,
 ) -> Result<Entry, Refusal>
-    ensures { result ≡ plan_arrow list.now kind b (place list.now source) (place list.now target) }
+    ensures { result ≡ plan_arrow list.now kind (one_if stands) (place list.now source) (place list.now target) }
 {
     let i = super::boxes::place_of(list, source).ok_or(Refusal::UnknownId)?;
     let j = super::boxes::place_of(list, target).ok_or(Refusal::UnknownId)?;
-    if i == j || super::bits::bit_of(list[i].arrows, j) != b {
+    if i == j || super::bits::has(list[i].arrows, j) != stands {
         return Err(Refusal::Arrow);
     }
     Ok(Entry {
@@ -80,7 +80,7 @@ pub(crate) fn plan_of(
     match change {
         Change::Add(id) => plan_add(list, past, id),
         Change::Delete(id) => plan_delete(list, id),
-        Change::Draw(source, target) => plan_arrow(list, super::DRAW, 0, source, target),
-        Change::Erase(source, target) => plan_arrow(list, super::ERASE, 1, source, target),
+        Change::Draw(source, target) => plan_arrow(list, super::DRAW, false, source, target),
+        Change::Erase(source, target) => plan_arrow(list, super::ERASE, true, source, target),
     }
 }

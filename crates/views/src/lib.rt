@@ -78,10 +78,7 @@ fn first_output(
 }
 
 // The first place that breaks respect, by box, action, state.
-fn first_respect(
-    tables: &Tables,
-    kept: &mut [bool; KEPT],
-) -> Result<(), Fault>
+fn first_respect(tables: &Tables, kept: &mut [bool; KEPT]) -> Result<(), Fault>
     requires kept { Kept tables.now.model.now.machine.sizes.states tables.now.model.now.machine.sizes.actions tables.now.next.now tables.now.low.now kept.old }
     ensures still_kept { Kept tables.now.model.now.machine.sizes.states tables.now.model.now.machine.sizes.actions tables.now.next.now tables.now.low.now kept.new }
     ensures first { result ≡ answer (first_respect (machine_of tables.now.model.now.machine tables.now.next.now []) every_state (policy_of tables.now.model.now) (view_of tables.now.model.now.machine tables.now.views.now)) }

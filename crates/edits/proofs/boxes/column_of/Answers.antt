@@ -4,10 +4,11 @@ use Rattle.laws.specs.Bits.{gather}
 use Rattle.laws.proofs.Bits.{bit_below, bit_high, gather_small}
 use Rattle.edits.specs.Records.{at}
 use Rattle.edits.specs.Moved.{arrow_into, column_of}
+use Rattle.edits.specs.Private.{one_if}
 use Rattle.edits.proofs.Chains.{gather_yes, gather_no}
 use Rattle.model.specs.Limits.{BOXES}
 use Rattle.edits.proofs.boxes.column_of.Goals as goal
-use Rattle.edits.proofs.boxes.column_of.Goals.{then-bit_of-eq1, else-bit_of-eq1}
+use Rattle.edits.proofs.boxes.column_of.Goals.{then-has, else-has}
 
 pub loop-k-init : goal.loop-k-init
 unfolding gather
@@ -22,10 +23,9 @@ with_bit-column-requires c =
 pub loop-k-preserved : goal.loop-k-preserved
 loop-k-preserved c =
     let f = arrow_into c.args.list.now c.args.p in
-    let b : f c.loop-k.k < 2 = bit_below c.args.p (at c.args.list.now c.loop-k.k).arrows in
-    elim c.if-bit_of-eq1.branch [
-      | then-bit_of-eq1 w ↦ omega (arith, w.column-is, w.with_bit-column.ensures, c.loop-k.invariant, gather_yes c.loop-k.k f (sym c.bit_of.ensures ∙ w.if-bit_of-eq1.true))
-      | else-bit_of-eq1 w ↦ omega (arith, w.column-is, c.loop-k.invariant, gather_no c.loop-k.k f (omega (arith, c.bit_of.ensures, w.if-bit_of-eq1.false)))
+    elim c.if-has.branch [
+      | then-has w ↦ omega (arith, w.column-is, w.with_bit-column.ensures, c.loop-k.invariant, gather_yes c.loop-k.k f (sym c.has.ensures.number ∙ ap one_if w.if-has.true))
+      | else-has w ↦ omega (arith, w.column-is, c.loop-k.invariant, gather_no c.loop-k.k f (sym c.has.ensures.number ∙ ap one_if w.if-has.false))
     ]
 
 pub returns : goal.returns

@@ -6,5 +6,5 @@ use Rattle.edits.proofs.changes.fits_arrow.Goals as goal
 pub bounds-list-i : goal.bounds-list-i
 bounds-list-i c = omega (arith, c.boxes_of-n.ensures, boxes_most c.args.list.now)
 
-pub bit_of-requires : goal.bit_of-requires
-bit_of-requires c = omega (arith, c.boxes_of-n.ensures, boxes_most c.args.list.now)
+pub has-requires : goal.has-requires
+has-requires c = omega (arith, c.boxes_of-n.ensures, boxes_most c.args.list.now)
