@@ -146,30 +146,9 @@ pub fn at(table: &[u16], index: usize) -> usize
     usize::from(table.get(index).copied().unwrap_or(0))
 }
 
-// The box of an action, 0 beyond the end of the list.
-pub fn owner(owners: &[u8], action: usize) -> usize
-    ensures { result ≡ get_or owners.now action 0 }
-{
-    usize::from(owners.get(action).copied().unwrap_or(0))
-}
-
-// The id of a box, 0 beyond the end of the list.
-pub fn id(ids: &[u32], position: usize) -> u32
-    ensures { result ≡ get_or ids.now position 0 }
-{
-    ids.get(position).copied().unwrap_or(0)
-}
-
 // Whether a number is in a set of numbers below the width of a word.
 pub fn contains(set: u32, member: usize) -> bool
     ensures { result ≡ has set member }
 {
     member < 32 && (set >> member) % 2 == 1
-}
-
-// Whether an arrow leads from one box to another, none from beyond the rows.
-pub fn arrow(arrows: &[u32], source: usize, target: usize) -> bool
-    ensures { result ≡ leads arrows.now source target }
-{
-    contains(arrows.get(source).copied().unwrap_or(0), target)
 }

@@ -4,7 +4,7 @@
 pub mod editing;
 mod lines;
 
-ghost use Rattle.std.specs.Prelude.{◌≡◌, ◌++◌, ◌+◌, ◌≤◌, length, replicate};
+ghost use Rattle.std.specs.Prelude.{◌≡◌, ◌++◌, ◌+◌, ◌≤◌, length};
 ghost use Rattle.model.specs.Limits.{BOXES, VERDICT_BYTES};
 ghost use Rattle.text.specs.Written.{Written};
 ghost use Rattle.zarpalume.specs.Lines.{views_line, Small, need_lines, depth_lines, reach_line};
@@ -13,15 +13,6 @@ ghost use Rattle.zarpalume.specs.Verdict.{Few, verdict_of, refusal_of, LineSmall
 use model::{BOXES, Model, Refused};
 use needs::Needs;
 use views::Fault;
-
-// Every byte made 0.
-fn zero(bytes: &mut [u8])
-    ensures { bytes.new ≡ replicate (length bytes.old) 0 }
-{
-    'bytes: for i in 0..bytes.len() {
-        bytes[i] = 0;
-    }
-}
 
 // What the needed-arrow call finds where it is refused.
 const NOTHING: Needs = Needs {
@@ -43,8 +34,8 @@ fn put_lines(
 {
     let boxes = model.machine.sizes.boxes;
     let a = lines::put_views(verdict, model, judged);
-    let b = a + lines::put_needs(&mut verdict[a..], &model.ids, list, needs.count);
-    let c = b + lines::put_depths(&mut verdict[b..], &model.ids, &needs.depths, boxes);
+    let b = a + lines::put_needs(&mut verdict[a..], model, list, needs.count);
+    let c = b + lines::put_depths(&mut verdict[b..], model, &needs.depths, boxes);
     c + lines::put_reach(&mut verdict[c..], needs.reach as u32)
 }
 
@@ -82,7 +73,7 @@ pub fn zarpalume_verdict(sheet: &[u8], verdict: &mut [u8]) -> usize
     if misfits {
         return 0;
     }
-    zero(verdict);
+    verdict.fill(0);
     let mut next = [0u16; model::NEXT_ENTRIES];
     let mut outputs = [0u16; model::OUTPUT_ENTRIES];
     let mut views = [0u16; model::VIEW_ENTRIES];

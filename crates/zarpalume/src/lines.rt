@@ -118,17 +118,17 @@ pub(crate) fn put_views(tail: &mut [u8], model: &Model, judged: Result<(), Fault
 // A line for each of the first `count` pairs of the list.
 pub(crate) fn put_needs(
     tail: &mut [u8],
-    ids: &[u32; model::BOXES],
+    model: &Model,
     list: &[u16; model::LIST_ENTRIES],
     count: usize,
 ) -> usize
     requires { (count ≤ PAIRS) × (27 * PAIRS ≤ length tail.old) }
-    ensures { Written tail.old tail.new result (need_lines ids.now list.now count) × (result ≤ 27 * PAIRS) }
+    ensures { Written tail.old tail.new result (need_lines model.now.ids list.now count) × (result ≤ 27 * PAIRS) }
 {
     let mut at = 0;
     'pairs: for k in 0..count {
-        let source = model::id(ids, model::at(list, 2 * k));
-        let target = model::id(ids, model::at(list, 2 * k + 1));
+        let source = model.id(model::at(list, 2 * k));
+        let target = model.id(model::at(list, 2 * k + 1));
         at += put_pair(&mut tail[at..], b"need\t", source, target);
     }
     at
@@ -137,17 +137,17 @@ pub(crate) fn put_needs(
 // A line for each of the first `boxes` boxes.
 pub(crate) fn put_depths(
     tail: &mut [u8],
-    ids: &[u32; model::BOXES],
+    model: &Model,
     depths: &[usize; model::BOXES],
     boxes: usize,
 ) -> usize
     requires boxes_bound { (boxes ≤ BOXES) × (28 * BOXES ≤ length tail.old) }
     requires by_index { (u : ℕ) → get_or depths.now u 0 < 65536 }
-    ensures { Written tail.old tail.new result (depth_lines ids.now depths.now boxes) × (result ≤ 28 * BOXES) }
+    ensures { Written tail.old tail.new result (depth_lines model.now.ids depths.now boxes) × (result ≤ 28 * BOXES) }
 {
     let mut at = 0;
     'boxes: for u in 0..boxes {
-        let id = model::id(ids, u);
+        let id = model.id(u);
         let depth = depths[u] as u32;
         at += put_pair(&mut tail[at..], b"depth\t", id, depth);
     }
