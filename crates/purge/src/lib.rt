@@ -9,6 +9,7 @@ ghost use Rattle.model.specs.Arrows.{leads};
 ghost use Rattle.purge.specs.Sets.{marked, touches, present};
 
 use model::{BOXES, Kind, Machine, Model, RUN_ACTIONS, Refusal, Refused};
+use std::array;
 
 // What is written for an action that is dropped, and to the end of the buffer.
 const DROPPED: u8 = 255;
@@ -29,11 +30,7 @@ fn interferers(model: &Model, u: usize) -> u32
 fn all_interferers(model: &Model) -> [u32; BOXES]
     ensures { ((u : ℕ) → u < BOXES → get_or result u 0 ≡ pack (λ v. leads model.now.arrows v u) 0 BOXES) }
 {
-    let mut sets = [0u32; BOXES];
-    'boxes: for u in 0..BOXES {
-        sets[u] = interferers(model, u);
-    }
-    sets
+    array::from_fn(|u| interferers(model, u))
 }
 
 // Writes each action that is kept in its place, and DROPPED for the others, from the right end of the run.
@@ -43,6 +40,7 @@ fn mark(machine: &Machine, run: &[u8], kept: &mut [u8], into: &[u32; BOXES], tar
 {
     // the boxes that interfere with a source of the run's part that was worked
     let mut set = target;
+    // by index: a `zip` with `iter_mut` says nothing of what was written, once the loop is over
     'run: for i in (0..run.len()).rev() {
         let action = run[i];
         let owner = machine.owner(usize::from(action));
@@ -61,6 +59,7 @@ fn gather(kept: &mut [u8]) -> usize
     ensures gathered { kept.new ≡ present kept.old ++ replicate (length kept.old - result) 255 }
 {
     let mut count = 0;
+    // by index: it reads at i and writes at i and at count of one slice
     'actions: for i in 0..kept.len() {
         let action = kept[i];
         if action == DROPPED {

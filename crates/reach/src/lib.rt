@@ -46,6 +46,7 @@ fn look(
 {
     let s = work[done];
     let mut n = entered;
+    // by number: over the row as a slice more goals stay open, since nothing here says how long the table is
     'actions: for a in 0..machine.sizes.actions {
         let t = model::at(next, s * machine.sizes.actions + a);
         if flags[t] {
