@@ -11,7 +11,7 @@ ghost use Rattle.sheet.specs.Reading.{parts, finish, model as model_of, reading_
 use super::{Arrows, Cursor, Due, Run, Taken};
 use model::{Machine, Model, Refusal, Refused, Sizes};
 
-// The line at a place; or 11 where the text has ended.
+// The line at a place, if it is the one that is due; `Ended` where the text has no line more.
 pub(crate) fn take_due(text: &[u8], cursor: Cursor, due: Due, ids: &[u32]) -> Result<Taken, Refused>
     requires { length ids.now ≤ BOXES }
     ensures { result ≡ taken_by (line_due due ids.now) text.now cursor.at cursor.line }
