@@ -75,7 +75,7 @@ pub record Demand3 (needed : Machine → Table → Table → Table → Result Ne
 -- ---- on the verdict's bytes
 -- the sheet says a model, and its views meet the conditions
 abbrev pub Meets : Reading → Type 0
-Meets (refusal number line) = ⊥
+Meets (refusal _ _) = ⊥
 Meets (model z p) =
     Conditions intransitive (machine_of (model_of z p).machine p.drawn.steps.next p.drawn.steps.outputs)
     (λ s. s < z.states) (policy_of (model_of z p)) (ByView (view_of (model_of z p).machine p.drawn.views))
