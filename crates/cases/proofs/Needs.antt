@@ -30,6 +30,7 @@ use Rattle.model.proofs.Denoted.{closed}
 use Rattle.views.specs.Judgement as views
 use Rattle.register.specs.Tables.{full}
 use Rattle.needs.specs.Listed.{flat, padded}
+use Rattle.std.specs.Prelude.{Ok}
 use Rattle.needs.specs.Answered.{needed_of, list_of, lengths_fit, told, found_in}
 use Rattle.cases.specs.Cases.{Case}
 use Rattle.cases.specs.Meets.{next, outputs, machine, state, id_at, at, arrows_of, IdsKnown, NeedsThese, DepthsAre, ReachIs}
@@ -163,7 +164,7 @@ module _ (c : Case) (k : Certificate) (g : good c ≡ true) (r : reach_right c k
         let b = both_true _ _ a.1 in
         both_of b.0 (both_of (eq-eqb _ _ long) a.0)
 
-    answers : needed_of c.model.machine (next c) (outputs c) l ≡ found_in (machine c)
+    answers : needed_of c.model.machine (next c) (outputs c) l ≡ Ok (found_in (machine c))
     unfolding needed_of choose
     answers = rw (lent, table_fits)
 
@@ -183,7 +184,7 @@ module _ (c : Case) (k : Certificate) (g : good c ≡ true) (r : reach_right c k
         ids_known c ps b.0,
         λ l long. (
           lists l long ∙ ap padded q,
-          ap (λ n. get_or (told n.outcome) 2 0) (answers l long) ∙ ap length q ∙ arrows_length c ps,
+          ap (λ n. get_or (told n) 2 0) (answers l long) ∙ ap length q ∙ arrows_length c ps,
         ),
       )
 
@@ -193,9 +194,7 @@ module _ (c : Case) (k : Certificate) (g : good c ≡ true) (r : reach_right c k
       let b = both_true _ _ h in
       let e : k.depths ≡ ds = same_list_lem _ _ b.0 in (
         λ u l. subst (λ x. Depth (machine c) u (get_or x u 0)) e (depth_right u l),
-        λ l long. ap (λ n. n.depths) (answers l long)
-            ∙ tabulate_same BOXES _ _ (λ u _. within ds e u)
-            ∙ same_list_lem _ _ b.1,
+        λ l long. rw (answers l long) (tabulate_same BOXES _ _ (λ u _. within ds e u) ∙ same_list_lem _ _ b.1),
       )
     where
       within : (ds : List ℕ) → k.depths ≡ ds → (u : ℕ) →
@@ -210,6 +209,6 @@ module _ (c : Case) (k : Certificate) (g : good c ≡ true) (r : reach_right c k
   reach_right_lem n h =
       let e : count c.model.machine.sizes.states (inside k) ≡ n = eqb-true _ _ h in (
         λ p w. reach_count (machine c) p (inside k) w reaches ∙ e,
-        λ l long. ap (λ x. get_or (told x.outcome) 3 0) (answers l long)
+        λ l long. ap (λ x. get_or (told x) 3 0) (answers l long)
             ∙ reach_count (machine c) (reached (machine c)) (inside k) (reach (machine c) in_states) reaches ∙ e,
       )

@@ -1,5 +1,5 @@
 -- What a case's claims say: in the mathematical definitions, and of the calls' own answers.
-use Rattle.std.specs.Prelude.{◌≡◌, Bool, List, [], ◌∷◌, ℕ, ◌<◌, eqb, length, get_or}
+use Rattle.std.specs.Prelude.{◌≡◌, Bool, List, [], ◌∷◌, ℕ, ◌<◌, eqb, length, get_or, Result, Err, IsOkAnd}
 use Rattle.laws.specs.Range.{first, count}
 use Rattle.noninterference.specs.Machine as noninterference
 use Rattle.noninterference.specs.Purge.{Policy, intransitive, purge, keeps}
@@ -9,11 +9,13 @@ use Rattle.noninterference.specs.Place.{Place, FirstBroken, OfAny}
 use Rattle.noninterference.specs.Needed.{Arrow, arrow, NeededList}
 use Rattle.noninterference.specs.Depth.{Depth}
 use Rattle.noninterference.specs.Reached.{Reach}
+use Rattle.model.specs.declared.refusal.Refused.{Refused}
 use Rattle.model.specs.Limits.{BOXES, NEXT_ENTRIES, OUTPUT_ENTRIES, VIEW_ENTRIES, LIST_ENTRIES}
 use Rattle.model.specs.Denoted.{machine_of, policy_of, view_of, owner_at}
 use Rattle.register.specs.Tables.{full}
+use Rattle.views.specs.Judgement as judging
 use Rattle.views.specs.Judgement.{judgement_of}
-use Rattle.views.specs.declared.Judgement.TheVariants.{Accepted, Output, Respect, Step}
+use Rattle.views.specs.declared.Fault.TheVariants.{Output, Respect, Step}
 use Rattle.needs.specs.Listed.{padded}
 use Rattle.needs.specs.Answered.{needed_of, list_of, told}
 use Rattle.needs.specs.declared.Needs.{Needs}
@@ -57,16 +59,16 @@ Broken c p = FirstBroken intransitive (machine c) (state c) (policy c) (view c) 
 abbrev pub Judged : Case → Views → Type 0
 Judged c accepted =
     Conditions intransitive (machine c) (state c) (policy c) (ByView (view c))
-    × (judgement_of c.model (next c) (outputs c) (views c) ≡ Accepted)
+    × (judgement_of c.model (next c) (outputs c) (views c) ≡ judging.accepted)
 Judged c (output id a s t) =
     Broken c (places.output a s t) × (id_at c (owner_at c.model.machine a) ≡ id)
-    × (judgement_of c.model (next c) (outputs c) (views c) ≡ Output a s t)
+    × (judgement_of c.model (next c) (outputs c) (views c) ≡ Err (Output a s t))
 Judged c (respect id a s) =
     Broken c (places.respect (at c id) a s) × (id_at c (at c id) ≡ id)
-    × (judgement_of c.model (next c) (outputs c) (views c) ≡ Respect (at c id) a s)
+    × (judgement_of c.model (next c) (outputs c) (views c) ≡ Err (Respect (at c id) a s))
 Judged c (step id a s t) =
     Broken c (places.step (at c id) a s t) × (id_at c (at c id) ≡ id)
-    × (judgement_of c.model (next c) (outputs c) (views c) ≡ Step (at c id) a s t)
+    × (judgement_of c.model (next c) (outputs c) (views c) ≡ Err (Step (at c id) a s t))
 
 -- the box at each end of an arrow that is given by ids
 abbrev pub arrows_of : Case → List (ℕ × ℕ) → List Arrow
@@ -78,7 +80,7 @@ IdsKnown c [] = Unit {0}
 IdsKnown c (p ∷ ps) = (id_at c (at c p.0) ≡ p.0) × (id_at c (at c p.1) ≡ p.1) × IdsKnown c ps
 
 -- what the needed-arrow call answers, with a list of the right length that holds anything
-abbrev answered : Case → List ℕ → Needs
+abbrev answered : Case → List ℕ → Result Needs Refused
 answered c l = needed_of c.model.machine (next c) (outputs c) l
 
 -- these are the needed arrows; and the call writes them and counts them
@@ -87,19 +89,19 @@ NeedsThese c ps =
     NeededList (machine c) (arrows_of c ps) × IdsKnown c ps
     × ((l : List ℕ) → length l ≡ LIST_ENTRIES →
     (list_of c.model.machine (next c) (outputs c) l ≡ padded (arrows_of c ps))
-    × (get_or (told (answered c l).outcome) 2 0 ≡ length ps))
+    × (get_or (told (answered c l)) 2 0 ≡ length ps))
 
 -- these are the boxes' depths; and the call answers them, and 0 beyond the last box
 abbrev pub DepthsAre : Case → List ℕ → Type 0
 DepthsAre c ds =
     ((u : ℕ) → u < c.model.machine.sizes.boxes → Depth (machine c) u (get_or ds u 0))
-    × ((l : List ℕ) → length l ≡ LIST_ENTRIES → (answered c l).depths ≡ full BOXES ds)
+    × ((l : List ℕ) → length l ≡ LIST_ENTRIES → IsOkAnd (answered c l) (λ n. n.depths ≡ full BOXES ds))
 
 -- so many states are reachable; and the call counts them
 abbrev pub ReachIs : Case → ℕ → Type 0
 ReachIs c n =
     ((inside : ℕ → Bool) → Reach (machine c) inside → count c.model.machine.sizes.states inside ≡ n)
-    × ((l : List ℕ) → length l ≡ LIST_ENTRIES → get_or (told (answered c l).outcome) 3 0 ≡ n)
+    × ((l : List ℕ) → length l ≡ LIST_ENTRIES → get_or (told (answered c l)) 3 0 ≡ n)
 
 -- the purge keeps exactly that; and the call writes it, whatever the buffer held
 abbrev pub Purged : Case → List ℕ → ℕ → List ℕ → Type 0

@@ -20,7 +20,7 @@ use Rattle.model.proofs.Denoted.{owned}
 use Rattle.model.proofs.Good.{model_table_good}
 use Rattle.sheet.specs.Reading.{model_of, sheet_text}
 use Rattle.sheet.proofs.Fits.{read_fits}
-use Rattle.views.specs.declared.Judgement.{Judgement}
+use Rattle.views.specs.Judgement.{Judgement}
 use Rattle.demands.specs.Calls.{Bytes, Table}
 use Rattle.demands.specs.Demands.{Demand2, DemandOnBytes, Meets}
 use Rattle.demands.specs.Printed as paper

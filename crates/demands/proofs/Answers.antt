@@ -16,7 +16,7 @@ use Rattle.zarpalume.specs.Verdict.{call_of}
 use Rattle.demands.specs.Refusals.{Question}
 use Rattle.demands.specs.Answers.{Answers}
 use Rattle.demands.specs.Ours.{ours}
-use Rattle.demands.proofs.Refusing.{question_test, flags_chosen}
+use Rattle.demands.proofs.Refusing.{question_test, reached_chosen}
 use Rattle.demands.proofs.Reading.{right, label_found_lem}
 
 purged_good : (m : Model) (kind : Kind) (position : ℕ) (run kept : List ℕ) →
@@ -32,6 +32,6 @@ answers = record {
   read = λ t next outputs views z p h e. right t next outputs views h ∙ ap given e;
   label = λ t position z p e h. label_found_lem t position z p e h;
   purged = purged_good;
-  reached = λ m next l g. flags_chosen m next ∙ sym (choose_yes _ (eq-eqb _ _ l) (choose_yes _ ((table_good m next).1 g) (choose_yes _ refl refl)));
+  reached = λ m next l g. reached_chosen m next ∙ sym (choose_yes _ (eq-eqb _ _ l) (choose_yes _ ((table_good m next).1 g) (choose_yes _ refl refl)));
   verdict = λ t buffer l. sym (choose_yes _ (eq-eqb _ _ l) refl);
 }

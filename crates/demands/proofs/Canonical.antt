@@ -1,5 +1,6 @@
 -- A good field is the number's own decimal form, and a good record is the line of its word and numbers.
 -- Assumes nothing.
+use Rattle.std.specs.Prelude.{Option, Some, None}
 use mathlib.Core.Path.{◌≡◌, refl, sym, ap, ap₂, ◌∙◌, subst}
 use mathlib.Core.Bool.{Bool, true, false, cond, ◌||◌}
 use mathlib.Core.List.{List, [], ◌∷◌, ◌++◌, append_assoc, append-nil}
@@ -11,8 +12,6 @@ use lib.Dec.{ltb, eqb}
 use lib.ListN.{length}
 use borrow.Author.Tests.{ltb-false, eqb-false}
 use Rattle.text.specs.Number.{on_number, digit, more, number, digits, decimal}
-use Rattle.text.specs.declared.Number.{Number}
-use Rattle.text.specs.declared.Number.TheVariants as numbers
 use Rattle.text.proofs.Digits.{digits_one, digits_more, number_limit}
 
 -- ---- one digit more
@@ -21,14 +20,14 @@ record Grown (v d w : ℕ) : Type 0 where
   high : d ≤ 57
   is : w ≡ v * 10 + (d - 48)
 
-no_number : {A : Type 0} {w : ℕ} → numbers.Bad ≡ numbers.Good w → A
+no_number : {A : Type 0} {w : ℕ} → None ≡ Some w → A
 no_number h = let z : ◌≡◌ {A = ℕ} 0 1 = cc in absurd (omega arith)
 
-grown : (limit v d w : ℕ) → digit limit v d ≡ numbers.Good w → Grown v d w
+grown : (limit v d w : ℕ) → digit limit v d ≡ Some w → Grown v d w
 unfolding digit
 grown limit v d w h = go (ltb d 48) (ltb 57 d) (ltb limit (v * 10 + (d - 48))) refl refl h
   where
-    go : (s t u : Bool) → ltb d 48 ≡ s → ltb 57 d ≡ t → cond (s || t || u) numbers.Bad (numbers.Good (v * 10 + (d - 48))) ≡ numbers.Good w → Grown v d w
+    go : (s t u : Bool) → ltb d 48 ≡ s → ltb 57 d ≡ t → cond (s || t || u) None (Some (v * 10 + (d - 48))) ≡ Some w → Grown v d w
     go true t u p q h = no_number h
     go false true u p q h = no_number h
     go false false true p q h = no_number h
@@ -46,21 +45,21 @@ record Read (limit d u : ℕ) (ds : List ℕ) (w : ℕ) : Type 0 where
   value : ℕ
   some : 0 < u
   one : Grown u d value
-  rest : more limit ds value ≡ numbers.Good w
+  rest : more limit ds value ≡ Some w
 
-one_more : (limit d u w : ℕ) (ds : List ℕ) → more limit (d ∷ ds) u ≡ numbers.Good w → Read limit d u ds w
+one_more : (limit d u w : ℕ) (ds : List ℕ) → more limit (d ∷ ds) u ≡ Some w → Read limit d u ds w
 unfolding more
 one_more limit d u w ds h = go (eqb u 0) refl (digit limit u d) refl h
   where
-    go : (t : Bool) → eqb u 0 ≡ t → (n : Number) → digit limit u d ≡ n → cond t numbers.Bad (on_number n (more limit ds) numbers.Bad) ≡ numbers.Good w → Read limit d u ds w
+    go : (t : Bool) → eqb u 0 ≡ t → (n : Option ℕ) → digit limit u d ≡ n → cond t None (on_number n (more limit ds) None) ≡ Some w → Read limit d u ds w
     go true p n q h = no_number h
-    go false p (numbers.Good v) q h = record { value = v; some = let k = eqb-false u 0 p in omega arith; one = grown limit u d v q; rest = h }
-    go false p numbers.Bad q h = no_number h
+    go false p (Some v) q h = record { value = v; some = let k = eqb-false u 0 p in omega arith; one = grown limit u d v q; rest = h }
+    go false p None q h = no_number h
 
 grown_some : (u d v : ℕ) → 0 < u → Grown u d v → 0 < v
 grown_some u d v p g = let e = g.is in omega arith
 
-more_digits : (limit k u w : ℕ) (ds : List ℕ) → more limit ds u ≡ numbers.Good w → digits (length ds + k) w ≡ digits k u ++ ds
+more_digits : (limit k u w : ℕ) (ds : List ℕ) → more limit ds u ≡ Some w → digits (length ds + k) w ≡ digits k u ++ ds
 unfolding more
 more_digits limit k u w [] h =
     let z : u ≡ w = cc in
@@ -82,7 +81,7 @@ unfolding scaled
 scaled_up zero u v l = l
 scaled_up (suc n) u v l = scaled_up n (u * 10) (v * 10) (omega arith)
 
-more_least : (limit n u w : ℕ) (ds : List ℕ) → n ≤ length ds → more limit ds u ≡ numbers.Good w → scaled n u ≤ w
+more_least : (limit n u w : ℕ) (ds : List ℕ) → n ≤ length ds → more limit ds u ≡ Some w → scaled n u ≤ w
 unfolding scaled more
 more_least limit zero u w [] l h = let z : u ≡ w = cc in omega arith
 more_least limit zero u w (d ∷ ds) l h =
@@ -97,7 +96,7 @@ more_least limit (suc n) u w (d ∷ ds) l h =
     let i : scaled n r.value ≤ w = more_least limit n r.value w ds (omega arith) r.rest in
     le_trans (scaled_up n (u * 10) r.value (omega arith)) i
 
-ten_digits : (limit u w : ℕ) (ds : List ℕ) → 0 < u → w ≤ 4294967295 → more limit ds u ≡ numbers.Good w → length ds ≤ 9
+ten_digits : (limit u w : ℕ) (ds : List ℕ) → 0 < u → w ≤ 4294967295 → more limit ds u ≡ Some w → length ds ≤ 9
 unfolding scaled
 ten_digits limit u w ds p l h = go (dec_lt 9 (length ds))
   where
@@ -109,17 +108,17 @@ ten_digits limit u w ds p l h = go (dec_lt 9 (length ds))
         absurd (omega arith)
 
 -- ---- a good field
-zero_alone : (limit w : ℕ) (ds : List ℕ) → more limit ds 0 ≡ numbers.Good w → (ds ≡ []) × (w ≡ 0)
+zero_alone : (limit w : ℕ) (ds : List ℕ) → more limit ds 0 ≡ Some w → (ds ≡ []) × (w ≡ 0)
 unfolding more
 zero_alone limit w [] h = (refl, let z : 0 ≡ w = cc in sym z)
 zero_alone limit w (d ∷ ds) h = let r = (one_more limit d 0 w ds h).some in absurd (omega arith)
 
-pub number_is : (limit w : ℕ) (f : List ℕ) → limit ≤ 4294967295 → number limit f ≡ numbers.Good w → f ≡ decimal w
+pub number_is : (limit w : ℕ) (f : List ℕ) → limit ≤ 4294967295 → number limit f ≡ Some w → f ≡ decimal w
 unfolding number
 number_is limit w [] m h = no_number h
 number_is limit w (d ∷ ds) m h = go (digit limit 0 d) refl h
   where
-    some : (u : ℕ) → Grown 0 d u → more limit ds u ≡ numbers.Good w → Dec (0 < u) → w ≤ limit → ◌≡◌ {A = List ℕ} (d ∷ ds) (decimal w)
+    some : (u : ℕ) → Grown 0 d u → more limit ds u ≡ Some w → Dec (0 < u) → w ≤ limit → ◌≡◌ {A = List ℕ} (d ∷ ds) (decimal w)
     some u g h (yes p) l =
         let k = ten_digits limit u w ds p (omega arith) h in
         let e : length ds + suc (9 - length ds) ≡ 10 = omega arith in
@@ -130,11 +129,11 @@ number_is limit w (d ∷ ds) m h = go (digit limit 0 d) refl h
     some u g h (no p) l =
         let c = g.is in let a = g.low in
         let z : u ≡ 0 = omega arith in
-        let q = zero_alone limit w ds (subst (λ n. more limit ds n ≡ numbers.Good w) z h) in
+        let q = zero_alone limit w ds (subst (λ n. more limit ds n ≡ Some w) z h) in
         let v : d ≡ 48 + w = let y = q.1 in omega arith in
         let y = q.1 in
         ap₂ (λ n xs. n ∷ xs) v q.0 ∙ sym (digits_one 9 w (omega arith))
 
-    go : (n : Number) → digit limit 0 d ≡ n → on_number n (more limit ds) numbers.Bad ≡ numbers.Good w → ◌≡◌ {A = List ℕ} (d ∷ ds) (decimal w)
-    go (numbers.Good u) q e = some u (grown limit 0 d u q) e (dec_lt 0 u) (number_limit limit (d ∷ ds) w h)
-    go numbers.Bad q e = no_number e
+    go : (n : Option ℕ) → digit limit 0 d ≡ n → on_number n (more limit ds) None ≡ Some w → ◌≡◌ {A = List ℕ} (d ∷ ds) (decimal w)
+    go (Some u) q e = some u (grown limit 0 d u q) e (dec_lt 0 u) (number_limit limit (d ∷ ds) w h)
+    go None q e = no_number e

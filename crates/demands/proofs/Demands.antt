@@ -1,30 +1,29 @@
 -- The demands hold of our calls.
 -- Assumes nothing.
-use mathlib.Core.Path.{refl}
 use mathlib.Core.Logic.{⊎_elim}
 use Rattle.laws.proofs.Tables.{length_tabulate}
 use Rattle.model.specs.Limits.{BOXES}
 use Rattle.model.proofs.Good.{model_table_good, table_good}
 use Rattle.views.proofs.Sound.{accepted_exactly, accepted_or_place, first_place, accepted_secure}
 use Rattle.needs.proofs.Demand as needs
+use Rattle.needs.specs.Answered.{found_in}
+use Rattle.model.specs.Denoted.{machine_of}
 use Rattle.demands.specs.Demands.{Demand1, Demand2, Demand3}
 use Rattle.demands.specs.Ours.{ours}
 use Rattle.demands.proofs.Refusing.{judge_lengths, needed_lengths, judge_refused, needed_refused, reached_refused, purged_refused}
-use Rattle.demands.proofs.Reading.{read_refused, read_whole, label_refused, label_whole, verdict_refused}
+use Rattle.demands.proofs.Reading.{read_refused, read_whole, label_refused, verdict_refused}
 
 pub demand_1 : Demand1 ours
 demand_1 = record {
   read = read_refused;
   read_then = read_whole;
   label = label_refused;
-  label_then = λ t position n l. label_whole t position;
   judge = judge_refused;
   needed = λ m next outputs list. (needed_refused m next outputs list).0;
   needed_then = λ m next outputs list. (needed_refused m next outputs list).1;
   purged = λ m kind position run kept. (purged_refused m kind position run kept).0;
   purged_then = λ m kind position run kept. (purged_refused m kind position run kept).1;
-  reached = λ m next. (reached_refused m next).0;
-  reached_then = λ m next. (reached_refused m next).1;
+  reached = reached_refused;
   verdict = verdict_refused;
 }
 
@@ -41,5 +40,5 @@ pub demand_3 : Demand3 ours.needed
 demand_3 = record {
   found = λ m next outputs list h g.
       let d = needs.demand_3 m next outputs list ((needed_lengths next outputs list).1 h) ((table_good m next).1 g) in
-      rw d.0 (_, _, refl, length_tabulate BOXES _, d.1);
+      (found_in (machine_of m next outputs), d.0, length_tabulate BOXES _, d.1);
 }

@@ -20,19 +20,22 @@ use Rattle.model.specs.declared.Machine.{Machine}
 use Rattle.model.specs.declared.Model.{Model}
 use Rattle.model.proofs.Good.{model_table_good}
 use Rattle.register.specs.Tables.{column, by_state}
-use Rattle.views.specs.declared.Judgement.{Judgement}
-use Rattle.views.specs.declared.Judgement.TheVariants as judgements
+use Rattle.std.specs.Prelude.{Result, Ok}
+use Rattle.model.specs.declared.refusal.Refused.{Refused}
+use Rattle.views.specs.Judgement as judging
+use Rattle.views.specs.Judgement.{Judgement}
 use Rattle.needs.specs.Demand.{Demand}
 use Rattle.needs.specs.Listed.{flat, padded}
 use Rattle.needs.specs.declared.Needs.{Needs}
-use Rattle.needs.specs.declared.Outcome.TheVariants.{Found}
 use Rattle.text.specs.Lines.{before, onto, lines, fields, same}
 use Rattle.text.specs.Number.{digit, more, number}
 use Rattle.sheet.specs.Numbers.{each, numbers, record_of}
 use Rattle.sheet.specs.Records.{plain, sheet_line, box_line, act_line, go_line, flow_line, view_line}
 use Rattle.sheet.specs.Phases.{phase, flows}
 use Rattle.sheet.specs.Reading.{Reading, model, refusal, parts, drawing, zeros, sheet_lines, sheet_text}
-use Rattle.sheet.specs.declared.Answer.TheVariants as sheets
+use Rattle.std.specs.Prelude.{Err}
+use Rattle.model.specs.Refusal.{refused_as}
+use Rattle.model.specs.declared.refusal.Refusal as named
 use Rattle.sheet.proofs.Table.{means_refused}
 use Rattle.cases.specs.Cases.{Case, p1, p2, p3, p4, p12}
 use Rattle.cases.specs.Meets.{next, outputs, views, machine, arrows_of, NeedsThese, DepthsAre, ReachIs}
@@ -75,25 +78,25 @@ unfolding is_model sheet_text sheet_lines lines onto sheet_line record_of same f
 smallest_read = refl
 
 pub refuses_every_sheet : (calls : Calls) → Demand1 calls →
-    ((t : Bytes) (next outputs views : Table) → (n l : ℕ) × ((calls.read t next outputs views).sheet.answer ≡ sheets.Refused n l)) → ⊥
+    ((t : Bytes) (next outputs views : Table) → (n : named.Refusal) × (l : ℕ) × ((calls.read t next outputs views).answer ≡ Err (refused_as n l))) → ⊥
 unfolding is_model
 refuses_every_sheet calls d h =
     let r = h smallest (zeros NEXT_ENTRIES) (zeros OUTPUT_ENTRIES) (zeros VIEW_ENTRIES) in
     told ((d.read smallest (zeros NEXT_ENTRIES) (zeros OUTPUT_ENTRIES) (zeros VIEW_ENTRIES) r.0 r.1).1 r.2)
   where
-    told : {n l : ℕ} → TextRefusal (ThreeTables (zeros NEXT_ENTRIES) (zeros OUTPUT_ENTRIES) (zeros VIEW_ENTRIES)) smallest n l → ⊥
+    told : {n : named.Refusal} {l : ℕ} → TextRefusal (ThreeTables (zeros NEXT_ENTRIES) (zeros OUTPUT_ENTRIES) (zeros VIEW_ENTRIES)) smallest n l → ⊥
     told (ten k) = k (zeros_long NEXT_ENTRIES, zeros_long OUTPUT_ENTRIES, zeros_long VIEW_ENTRIES)
     told (text k r) = not_both smallest_read (ap is_model (means_refused smallest _ _ r))
 
 -- ---- demand 2: breaking every view, at P1; accepting every view, at P4
 module _ (judge : Model → Table → Table → Table → Judgement) (d : Demand2 judge) where
-  pub breaks_every_view : ((m : Model) (next outputs views : Table) → judge m next outputs views ≢ judgements.Accepted) → ⊥
+  pub breaks_every_view : ((m : Model) (next outputs views : Table) → judge m next outputs views ≢ judging.accepted) → ⊥
   breaks_every_view h =
       let g = cases_sound.0.0 in
       h p1.model (next p1) (outputs p1) (views p1)
       ((d.accepted p1.model (next p1) (outputs p1) (views p1) (three p1 g) (good_model p1 g)).1 cases_hold.0.0.0)
 
-  pub accepts_every_view : ((m : Model) (next outputs views : Table) → judge m next outputs views ≡ judgements.Accepted) → ⊥
+  pub accepts_every_view : ((m : Model) (next outputs views : Table) → judge m next outputs views ≡ judging.accepted) → ⊥
   accepts_every_view h =
       let g = cases_sound.1.1.1.0.0 in
       let k = (d.accepted p4.model (next p4) (outputs p4) (views p4) (three p4 g) (good_model p4 g)).0 (h p4.model (next p4) (outputs p4) (views p4)) in
@@ -104,13 +107,13 @@ module _ (judge : Model → Table → Table → Table → Judgement) (d : Demand
 abbrev blank : Table
 blank = replicate LIST_ENTRIES 0
 
-module _ (needed : Machine → Table → Table → Table → Needs × Table) (d : Demand3 needed) where
+module _ (needed : Machine → Table → Table → Table → Result Needs Refused × Table) (d : Demand3 needed) where
   module _ (c : Case) (k : Certificate) (s : Sound c k) where
-    abbrev given : Needs × Table
+    abbrev given : Result Needs Refused × Table
     given = needed c.model.machine (next c) (outputs c) blank
 
     abbrev FoundHere : Type 0
-    FoundHere = (count reach : ℕ) × (given.0.outcome ≡ Found count reach) × (length given.0.depths ≡ BOXES) × Demand (machine c) count reach given.0.depths given.1
+    FoundHere = (needs : Needs) × (given.0 ≡ Ok needs) × (length needs.depths ≡ BOXES) × Demand (machine c) needs.count needs.reach needs.depths given.1
 
     found : FoundHere
     found =
@@ -120,14 +123,17 @@ module _ (needed : Machine → Table → Table → Table → Needs × Table) (d 
     list_is : (ps : List (ℕ × ℕ)) → NeedsThese c ps → given.1 ≡ padded (arrows_of c ps)
     unfolding padded
     list_is ps n =
-        let w = found.4 in
-        sym (take-append-drop (2 * found.0) given.1) ∙ rw (w.on_list, w.rest_zero, w.counted, list_unique (machine c) _ _ w.needed n.0)
+        let w = found.3 in
+        sym (take-append-drop (2 * found.0.count) given.1) ∙ rw (w.on_list, w.rest_zero, w.counted, list_unique (machine c) _ _ w.needed n.0)
 
-    depth_is : (ds : List ℕ) → DepthsAre c ds → (u : ℕ) → u < c.model.machine.sizes.boxes → get_or given.0.depths u 0 ≡ get_or ds u 0
-    depth_is ds h u l = depth_unique (machine c) u _ _ (found.4.depth u l) (h.0 u l)
+    depth_is : (ds : List ℕ) → DepthsAre c ds → (u : ℕ) → u < c.model.machine.sizes.boxes → get_or found.0.depths u 0 ≡ get_or ds u 0
+    depth_is ds h u l = depth_unique (machine c) u _ _ (found.3.depth u l) (h.0 u l)
 
-    reach_is : (n : ℕ) → ReachIs c n → given.0.outcome ≡ Found found.0 n
-    reach_is n h = found.2 ∙ ap (Found found.0) (found.4.reachable (inside k) s.1 ∙ h.0 (inside k) s.1)
+    reach_is : (n : ℕ) → ReachIs c n → found.0.reach ≡ n
+    reach_is n h = found.3.reachable (inside k) s.1 ∙ h.0 (inside k) s.1
+
+    the_needs : (needs : Needs) → given.0 ≡ Ok needs → needs ≡ found.0
+    the_needs needs e = let q = sym e ∙ found.1 in cc
 
   abbrev at_p2 : Sound p2 register
   at_p2 = cases_sound.1.0
@@ -185,10 +191,10 @@ module _ (needed : Machine → Table → Table → Table → Needs × Table) (d 
   one_round h = let a : ◌≡◌ {A = ℕ} 0 1 = ap (λ l. get_or l 1 0) (sym (h _ _ _ _ (inside chain) at_p12.1) ∙ p12_list) in omega arith
 
   -- at P3 the depth of X is 1, and 9 states are reachable
-  pub invented_depth : (k : ℕ) → k ≢ 1 → get_or (given p3 register at_p3).0.depths 3 0 ≡ k → ⊥
-  invented_depth k n e = n (sym e ∙ depth_is p3 register at_p3 (0 ∷ 0 ∷ 0 ∷ 1 ∷ []) cases_hold.1.1.0.0 3 (omega arith))
+  pub invented_depth : (needs : Needs) (k : ℕ) → k ≢ 1 → (given p3 register at_p3).0 ≡ Ok needs → get_or needs.depths 3 0 ≡ k → ⊥
+  invented_depth needs k n e q =
+      n (sym q ∙ ap (λ x. get_or x.depths 3 0) (the_needs p3 register at_p3 needs e)
+      ∙ depth_is p3 register at_p3 (0 ∷ 0 ∷ 0 ∷ 1 ∷ []) cases_hold.1.1.0.0 3 (omega arith))
 
-  pub invented_reach : (count k : ℕ) → k ≢ 9 → (given p3 register at_p3).0.outcome ≡ Found count k → ⊥
-  invented_reach count k n e =
-      let f = sym e ∙ reach_is p3 register at_p3 9 cases_hold.1.1.0.1.0 in
-      let g : k ≡ 9 = cc in n g
+  pub invented_reach : (needs : Needs) → needs.reach ≢ 9 → (given p3 register at_p3).0 ≡ Ok needs → ⊥
+  invented_reach needs n e = n (ap (λ x. x.reach) (the_needs p3 register at_p3 needs e) ∙ reach_is p3 register at_p3 9 cases_hold.1.1.0.1.0)

@@ -1,5 +1,8 @@
 -- What the reader gives for a printed sheet is what the sheet means: each part by name, and the labels.
 -- Assumes nothing.
+use Rattle.model.specs.Refusal.{refused_as}
+use Rattle.std.specs.Prelude.{Ok, Err}
+use Rattle.model.specs.declared.refusal.Refusal.TheVariants as why
 use mathlib.Core.Path.{◌≡◌, refl, sym, ap, ap₂, subst, ◌∙◌}
 use mathlib.Core.Bool.{Bool, true, false, ◌&&◌, ◌||◌}
 use mathlib.Core.List.{List, [], ◌∷◌, ◌++◌, map}
@@ -9,7 +12,7 @@ use native.Mathlib.Nat.{mul-le-mul, mul-add-div_right, div-eq_of_lt, mul-add-mod
 use lib.Dec.{eqb, ltb}
 use lib.ListN.{length, get_or, set, drop, replicate, length-replicate, length-map, get_or-append}
 use lib.Seq.{sets, sets-eq, get_or-set_same, get_or-set_other}
-use borrow.Author.Tests.{eq-eqb, eqb-true, eqb-false, lt-ltb, le-ltb, ltb-true}
+use borrow.Author.Tests.{eq-eqb, eqb-true, eqb-false, le-ltb, ltb-true}
 use Rattle.laws.proofs.Tables.{tabulated, tabulate_at, drop_zeros}
 use Rattle.laws.proofs.Cells.{cell}
 use Rattle.laws.proofs.Tests.{by_test, not_both}
@@ -22,9 +25,8 @@ use Rattle.model.specs.Arrows.{drawn, selves}
 use Rattle.model.proofs.Arrows.{drawn_length, drawn_at, no_arrows, selves_at}
 use Rattle.model.specs.Limits.{STATES, ACTIONS, BOXES, NEXT_ENTRIES, OUTPUT_ENTRIES, VIEW_ENTRIES, SHEET_BYTES}
 use Rattle.text.specs.Number.{decimal}
-use Rattle.sheet.specs.declared.Record.{Record}
 use Rattle.sheet.specs.Records.{position}
-use Rattle.sheet.specs.Numbers.{rest}
+use Rattle.sheet.specs.Numbers.{Record, rest}
 use Rattle.sheet.specs.Phases.{steps}
 use Rattle.sheet.specs.Reading.{Parts, parts_as, drawn_as, model, zeros, sheet_text, given, read}
 use Rattle.sheet.specs.Words as words
@@ -242,18 +244,17 @@ module _ (p : Paper) (g : Good p) where
     pub printed_means : sheet_text (print p) ≡ model (sizes_of p) (parts_of p)
     printed_means = sheets.printed_model p g short ∙ ap (model (sizes_of p)) parts_mean
 
-    pub label_means : (i : ℕ) → i < length p.boxes → (label (print p) i).bytes ≡ get_or (labels_of p) i []
+    pub label_means : (i : ℕ) → i < length p.boxes → (start : ℕ) × (label (print p) i ≡ Ok (labelled (get_or (labels_of p) i []) start))
     label_means i h =
         let e : i + 1 ≡ suc i = omega arith in
-        (label_is (print p) printed_means i h).0
+        let w = label_is (print p) printed_means i h in
+        let b : w.bytes ≡ get_or (labels_of p) i [] =
+        w.third
         ∙ ap₂ (λ (ls : List (List ℕ)) n. get_or (rest (get_or ls n [])) 1 []) (sheets.printed p g) e
-        ∙ box_at 0 [] p.boxes _ i g.boxes h
+        ∙ box_at 0 [] p.boxes _ i g.boxes h in
+        (w.start, w.is ∙ ap (λ x. Ok (labelled x w.start)) b)
 
-    pub label_good_lem : (i : ℕ) → i < length p.boxes → ((label (print p) i).number ≡ 0) × ((label (print p) i).line ≡ 0)
-    unfolding label_found
-    label_good_lem i h = rw (printed_means, lt-ltb i (length p.boxes) h) (refl, refl)
-
-    pub label_none : (i : ℕ) → length p.boxes ≤ i → label (print p) i ≡ labelled [] 0 13 0
+    pub label_none : (i : ℕ) → length p.boxes ≤ i → label (print p) i ≡ Err (refused_as why.Range 0)
     unfolding label_found
     label_none i h = rw (printed_means, le-ltb i (length p.boxes) h) refl
 

@@ -1,5 +1,6 @@
 -- What the demands ask of the verdict's bytes holds of ours.
 -- Assumes nothing.
+use Rattle.model.specs.Refusal.{number_of}
 use mathlib.Core.Path.{◌≡◌, refl, sym, ap, ◌∙◌}
 use mathlib.Core.Logic.{◌↔◌}
 use mathlib.Core.List.{[], ◌∷◌, ◌++◌, append-nil}
@@ -33,14 +34,14 @@ unfolding verdict
 as_rows t = go (sheet_text t) refl
   where
     go : (rd : Reading) → sheet_text t ≡ rd → said rd ≡ text (rows_of (told rd))
-    go (refusal n l) e = refused_rows n l
+    go (refusal n l) e = refused_rows (number_of n) l
     go (model z p) e = after.said t e
 
 all_small : (t : Bytes) → Small (told (sheet_text t))
 all_small t = go (sheet_text t) refl
   where
     go : (rd : Reading) → sheet_text t ≡ rd → Small (told rd)
-    go (refusal n l) e = let h = number_small n (number_of_text (refused_means t n l e)) in let k = line_small t e in (omega (arith, h), omega arith)
+    go (refusal n l) e = let h = number_small (number_of n) (number_of_text (refused_means t n l e)) in let k = line_small t e in (omega (arith, h), omega arith)
     go (model z p) e = after.all_small t e
 
 -- ---- the first line
@@ -59,7 +60,7 @@ first_accepted t = go (sheet_text t) refl
 
     go : (rd : Reading) → sheet_text t ≡ rd → (first_line (verdict t) ≡ accepted_line) ↔ Meets rd
     go (refusal n l) e =
-        let f = first_row _ (views_row accepted) [] (rows_plain (refused n l)).0 (views_plain accepted) in
+        let f = first_row _ (views_row accepted) [] (rows_plain (refused (number_of n) l)).0 (views_plain accepted) in
         (λ h. apart 0 (f.0 (sym (line_of (refusal n l) e) ∙ h)) (λ z. omega arith), λ h. absurd h)
     go (model z p) e =
         let f = first_row _ (views_row accepted) _ (views_plain (after.judged_views t e)) (views_plain accepted) in

@@ -1,12 +1,13 @@
 -- The demands leave nothing open: whoever meets them answers every input as our calls do.
 -- Assumes nothing.
+use Rattle.model.specs.declared.refusal.Refusal as named
+use Rattle.model.specs.declared.refusal.Refusal.TheVariants as why
 use mathlib.Core.Path.{◌≡◌, refl, sym, ap, ap₂, ◌∙◌}
 use mathlib.Core.Logic.{◌↔◌}
 use mathlib.Core.Bool.{Bool, true}
 use mathlib.Core.List.{List}
 use mathlib.Core.Option.{some}
 use Prim.Native.Nat.{ℕ, ◌*◌, ◌<◌}
-use native.Mathlib.Omega.{arith}
 use lib.Dec.{ltb}
 use lib.ListN.{length, get_or, take-append-drop}
 use borrow.Author.Tests.{eqb-true, eq-eqb, ltb-true, ltb-false}
@@ -27,14 +28,13 @@ use Rattle.model.proofs.Denoted.{closed}
 use Rattle.model.proofs.Good.{model_table_good, table_good, model_good}
 use Rattle.sheet.specs.Reading.{Reading, model, refusal, sheet_text}
 use Rattle.sheet.proofs.Table.{refused_means}
-use Rattle.views.specs.Judgement.{answer}
-use Rattle.views.specs.declared.Judgement.{Judgement}
-use Rattle.views.specs.declared.Judgement.TheVariants as judgements
+use Rattle.std.specs.Prelude.{Result, Ok, Err}
+use Rattle.model.specs.declared.refusal.Refused.{Refused}
+use Rattle.views.specs.Judgement as judging
+use Rattle.views.specs.Judgement.{Judgement, answer}
 use Rattle.needs.specs.Demand.{Demand}
 use Rattle.needs.specs.Listed.{padded}
 use Rattle.needs.specs.declared.Needs.{Needs}
-use Rattle.needs.specs.declared.Outcome.{Outcome}
-use Rattle.needs.specs.declared.Outcome.TheVariants.{Found}
 use Rattle.model.specs.declared.Kind.{Kind}
 use Rattle.demands.specs.Answers.{Answers, Alike}
 use Rattle.demands.specs.Calls.{Bytes, Table, Calls}
@@ -51,63 +51,65 @@ decided {b = b} t there not_there = by_test b (λ e. there (t.0 e)) (λ e. not_t
 
 -- something is refused, or all is good
 sorted : {X : Type 0} {f g h : Bool} {lengths good asked : Type 0} → (f ≡ true) ↔ lengths → (g ≡ true) ↔ good → (h ≡ true) ↔ asked →
-    ((n l : ℕ) → Refusal lengths good asked n l → X) → (lengths → good → asked → X) → X
+    ((n : named.Refusal) (l : ℕ) → Refusal lengths good asked n l → X) → (lengths → good → asked → X) → X
 sorted lengths_test good_test asked_test bad fine =
     decided lengths_test
-    (λ a. decided good_test (λ b. decided asked_test (fine a b) (λ k. bad 13 0 (thirteen a b k))) (λ k. bad 12 0 (twelve a k)))
-    (λ k. bad 10 0 (ten k))
+    (λ a. decided good_test (λ b. decided asked_test (fine a b) (λ k. bad why.Range 0 (thirteen a b k))) (λ k. bad why.Rules 0 (twelve a k)))
+    (λ k. bad why.Length 0 (ten k))
 
 -- a judgement accepts or does not
-accepted_or : {X : Type 0} (j : Judgement) → (j ≡ judgements.Accepted → X) → (¬ (j ≡ judgements.Accepted) → X) → X
-accepted_or judgements.Accepted is is-not = is refl
-accepted_or (judgements.Output o s t) is is-not = is-not (λ e. let z : ◌≡◌ {A = ℕ} 0 1 = cc in omega arith)
-accepted_or (judgements.Respect u a s) is is-not = is-not (λ e. let z : ◌≡◌ {A = ℕ} 0 1 = cc in omega arith)
-accepted_or (judgements.Step u a s t) is is-not = is-not (λ e. let z : ◌≡◌ {A = ℕ} 0 1 = cc in omega arith)
-accepted_or (judgements.Refused n l) is is-not = is-not (λ e. let z : ◌≡◌ {A = ℕ} 0 1 = cc in omega arith)
+accepted_or : {X : Type 0} (j : Judgement) → (j ≡ judging.accepted → X) → (¬ (j ≡ judging.accepted) → X) → X
+accepted_or (Ok _) is is-not = is refl
+accepted_or (Err f) is is-not = is-not (λ e. cc)
 
 -- ---- two answers that demand 3 allows for one machine
-abbrev Found3 : noninterference.Machine → Needs × Table → Type 0
-Found3 M x = (count reach : ℕ) × (x.0.outcome ≡ Found count reach) × (length x.0.depths ≡ BOXES) × Demand M count reach x.0.depths x.1
+abbrev Found3 : noninterference.Machine → Result Needs Refused × Table → Type 0
+Found3 M x = (needs : Needs) × (x.0 ≡ Ok needs) × (length needs.depths ≡ BOXES) × Demand M needs.count needs.reach needs.depths x.1
 
-whole_list : (M : noninterference.Machine) (x : Needs × Table) (f : Found3 M x) → x.1 ≡ padded f.4.arrows
+whole_list : (M : noninterference.Machine) (x : Result Needs Refused × Table) (f : Found3 M x) → x.1 ≡ padded f.3.arrows
 unfolding padded
-whole_list M x f = let w = f.4 in sym (take-append-drop (2 * f.0) x.1) ∙ rw (w.on_list, w.rest_zero, w.counted)
+whole_list M x f = let w = f.3 in sym (take-append-drop (2 * f.0.count) x.1) ∙ rw (w.on_list, w.rest_zero, w.counted)
 
-module _ (M : noninterference.Machine) (c : Closed M (λ s. s < M.states)) (x y : Needs × Table) (f : Found3 M x) (g : Found3 M y) where
-  same_arrows : f.4.arrows ≡ g.4.arrows
-  same_arrows = list_unique M _ _ f.4.needed g.4.needed
+module _ (M : noninterference.Machine) (c : Closed M (λ s. s < M.states)) (x y : Result Needs Refused × Table) (f : Found3 M x) (g : Found3 M y) where
+  same_arrows : f.3.arrows ≡ g.3.arrows
+  same_arrows = list_unique M _ _ f.3.needed g.3.needed
 
-  same_outcome : x.0.outcome ≡ y.0.outcome
-  same_outcome =
-      let n : f.0 ≡ g.0 = f.4.counted ∙ ap length same_arrows ∙ sym g.4.counted in
-      let k : f.1 ≡ g.1 = f.4.reachable (reached M) (reach M c) ∙ sym (g.4.reachable (reached M) (reach M c)) in
-      f.2 ∙ rw (n, k) (sym g.2)
+  same_count : f.0.count ≡ g.0.count
+  same_count = f.3.counted ∙ ap length same_arrows ∙ sym g.3.counted
 
-  same_depth : (u : ℕ) → get_or x.0.depths u 0 ≡ get_or y.0.depths u 0
+  same_reach : f.0.reach ≡ g.0.reach
+  same_reach = f.3.reachable (reached M) (reach M c) ∙ sym (g.3.reachable (reached M) (reach M c))
+
+  same_depth : (u : ℕ) → get_or f.0.depths u 0 ≡ get_or g.0.depths u 0
   same_depth u =
       by_test (ltb u M.boxes)
-      (λ e. let l = ltb-true _ _ e in depth_unique M u _ _ (f.4.depth u l) (g.4.depth u l))
-      (λ e. let l = ltb-false _ _ e in f.4.beyond u l ∙ sym (g.4.beyond u l))
+      (λ e. let l = ltb-true _ _ e in depth_unique M u _ _ (f.3.depth u l) (g.3.depth u l))
+      (λ e. let l = ltb-false _ _ e in f.3.beyond u l ∙ sym (g.3.beyond u l))
 
-  same_depths : x.0.depths ≡ y.0.depths
-  same_depths = ext_get_or 0 x.0.depths y.0.depths (f.3 ∙ sym g.3) (λ i p. same_depth i)
+  same_depths : f.0.depths ≡ g.0.depths
+  same_depths = ext_get_or 0 f.0.depths g.0.depths (f.2 ∙ sym g.2) (λ i p. same_depth i)
 
   same_found : x ≡ y
   same_found =
-      ap₂ pair (ap₂ needs same_outcome same_depths) (whole_list M x f ∙ ap padded same_arrows ∙ sym (whole_list M y g))
+      ap₂ pair (f.1 ∙ ap Ok same_needs ∙ sym g.1) (whole_list M x f ∙ ap padded same_arrows ∙ sym (whole_list M y g))
     where
-      needs : Outcome → List ℕ → Needs
-      needs outcome depths = record { outcome = outcome; depths = depths }
+      needs : ℕ → ℕ → List ℕ → Needs
+      needs count reach depths = record { count = count; reach = reach; depths = depths }
 
-      pair : Needs → Table → Needs × Table
+      same_needs : f.0 ≡ g.0
+      same_needs =
+          ap (λ k. needs k f.0.reach f.0.depths) same_count ∙ ap (λ k. needs g.0.count k f.0.depths) same_reach
+          ∙ ap (needs g.0.count g.0.reach) same_depths
+
+      pair : Result Needs Refused → Table → Result Needs Refused × Table
       pair n l = (n, l)
 
 module _ (calls : Calls) (d1 : Demand1 calls) (d2 : Demand2 calls.judge) (d3 : Demand3 calls.needed) (a : Answers calls) where
   read_only : (t : Bytes) (next outputs views : Table) → calls.read t next outputs views ≡ ours.read t next outputs views
   read_only t next outputs views =
-      decided (judge_lengths next outputs views) (λ h. as_read h (sheet_text t) refl) (λ k. as_refused 10 0 (ten k))
+      decided (judge_lengths next outputs views) (λ h. as_read h (sheet_text t) refl) (λ k. as_refused why.Length 0 (ten k))
     where
-      as_refused : (n l : ℕ) → TextRefusal (ThreeTables next outputs views) t n l → calls.read t next outputs views ≡ ours.read t next outputs views
+      as_refused : (n : named.Refusal) (l : ℕ) → TextRefusal (ThreeTables next outputs views) t n l → calls.read t next outputs views ≡ ours.read t next outputs views
       as_refused n l r =
           d1.read_then t next outputs views n l ((d1.read t next outputs views n l).0 r)
           ∙ sym (demand_1.read_then t next outputs views n l ((demand_1.read t next outputs views n l).0 r))
@@ -120,14 +122,14 @@ module _ (calls : Calls) (d1 : Demand1 calls) (d2 : Demand2 calls.judge) (d3 : D
   label_only : (t : Bytes) (position : ℕ) → calls.label t position ≡ ours.label t position
   label_only t position = go (sheet_text t) refl
     where
-      as_refused : (n l : ℕ) → LabelRefusal t position n l → calls.label t position ≡ ours.label t position
-      as_refused n l r = d1.label_then t position n l r ∙ sym (demand_1.label_then t position n l r)
+      as_refused : (n : named.Refusal) (l : ℕ) → LabelRefusal t position n l → calls.label t position ≡ ours.label t position
+      as_refused n l r = (d1.label t position n l).0 r ∙ sym ((demand_1.label t position n l).0 r)
 
       go : (rd : Reading) → sheet_text t ≡ rd → calls.label t position ≡ ours.label t position
       go (model z p) e =
           by_test (ltb position z.boxes)
           (λ b. let h = ltb-true _ _ b in a.label t position z p e h ∙ sym (answers.label t position z p e h))
-          (λ b. as_refused 13 0 (thirteen z p e (ltb-false _ _ b)))
+          (λ b. as_refused why.Range 0 (thirteen z p e (ltb-false _ _ b)))
       go (refusal n l) e = as_refused n l (text (refused_means t n l e))
 
   judge_only : (m : Model) (next outputs views : Table) → calls.judge m next outputs views ≡ ours.judge m next outputs views
@@ -163,7 +165,7 @@ module _ (calls : Calls) (d1 : Demand1 calls) (d2 : Demand2 calls.judge) (d3 : D
   reached_only : (m : Machine) (next : Table) → calls.reached m next ≡ ours.reached m next
   reached_only m next =
       sorted (eqb-true (length next) NEXT_ENTRIES, eq-eqb (length next) NEXT_ENTRIES) (table_good m next) no_question
-      (λ n l r. d1.reached_then m next n l ((d1.reached m next n l).0 r) ∙ sym (demand_1.reached_then m next n l ((demand_1.reached m next n l).0 r)))
+      (λ n l r. (d1.reached m next n l).0 r ∙ sym ((demand_1.reached m next n l).0 r))
       (λ h g u. a.reached m next h g ∙ sym (answers.reached m next h g))
 
   verdict_only : (t buffer : Bytes) → calls.verdict t buffer ≡ ours.verdict t buffer

@@ -1,13 +1,13 @@
 -- A run of lines of one kind is read exactly where it was printed from items that keep to the rules.
 -- Assumes nothing.
+use Rattle.std.specs.Prelude.{Ok, Err}
+use Rattle.model.specs.declared.refusal.Refusal.{Refusal}
 use mathlib.Core.Path.{◌≡◌, refl, ap, ap₂}
 use mathlib.Core.List.{List, [], ◌∷◌, ◌++◌}
 use Prim.Native.Nat.{ℕ, zero, suc}
 use native.Mathlib.Omega.{arith}
 use lib.ListN.{length}
-use Rattle.sheet.specs.declared.Record.{Record}
-use Rattle.sheet.specs.declared.Record.TheVariants.{Numbers, Not}
-use Rattle.sheet.specs.Numbers.{on_record}
+use Rattle.sheet.specs.Numbers.{Record, said, on_record}
 use Rattle.sheet.specs.Phases.{Got, got, refused, phase}
 use Rattle.demands.specs.Printed.{Row, rows_from}
 use Rattle.demands.proofs.Rows.{glue}
@@ -22,7 +22,7 @@ unfolding glues
 glues_append [] qs = refl
 glues_append (r ∷ rs) qs = ap (λ ls. glue r ∷ ls) (glues_append rs qs)
 
-pub no_got : {A S : Type 0} {e n : ℕ} {s : S} {ls : List (List ℕ)} {m : ℕ} → ◌≡◌ {A = Got S} (refused e n) (got s ls m) → A
+pub no_got : {A S : Type 0} {e : Refusal} {n : ℕ} {s : S} {ls : List (List ℕ)} {m : ℕ} → ◌≡◌ {A = Got S} (refused e n) (got s ls m) → A
 no_got h = let z : ◌≡◌ {A = ℕ} 0 1 = cc in absurd (omega arith)
 
 -- a phase: its lines and what it stores; the row of item k, what the item makes of the state, and the rules
@@ -41,7 +41,7 @@ module _ {S A : Type 0} (line : ℕ → S → List ℕ → Record) (store : ℕ 
     pub b : ℕ
     pub c : ℕ
     pub d : ℕ
-    pub says : line k s (glue (row k x)) ≡ Numbers a b c d
+    pub says : line k s (glue (row k x)) ≡ said a b c d
     pub stored : store k s a b c d ≡ next k s x
 
   pub phase_print : ((k : ℕ) (s : S) (x : A) → P k s x → Printed k s x) → (xs : List A) (k : ℕ) (s : S) (ls : List (List ℕ)) (n : ℕ) → Follow k s xs →
@@ -66,7 +66,7 @@ module _ {S A : Type 0} (line : ℕ → S → List ℕ → Record) (store : ℕ 
     pub follow : Follow k s items
     pub ends : s' ≡ nexts k s items
 
-  pub phase_back : ((k : ℕ) (s : S) (l : List ℕ) (a b c d : ℕ) → line k s l ≡ Numbers a b c d → Item k s l a b c d) →
+  pub phase_back : ((k : ℕ) (s : S) (l : List ℕ) (a b c d : ℕ) → line k s l ≡ said a b c d → Item k s l a b c d) →
       (left k : ℕ) (s : S) (ls : List (List ℕ)) (n : ℕ) {s' : S} {ls' : List (List ℕ)} {n' : ℕ} → phase line store left k s ls n ≡ got s' ls' n' → Taken left k s ls ls' s'
   unfolding phase glues rows_from nexts
   phase_back f zero k s ls n h = record { items = []; many = refl; lines_are = cc; follow = tt; ends = cc }
@@ -75,9 +75,9 @@ module _ {S A : Type 0} (line : ℕ → S → List ℕ → Record) (store : ℕ 
     where
       go : (r : Record) → line k s l ≡ r → ((t : S) → phase line store left (suc k) t ls (suc n) ≡ got s' ls' n' → Taken left (suc k) t ls ls' s') →
           on_record r (λ a b c d. phase line store left (suc k) (store k s a b c d) ls (suc n)) (λ e. refused e n) ≡ got s' ls' n' → Taken (suc left) k s (l ∷ ls) ls' s'
-      go (Not e) q back h = no_got h
-      go (Numbers a b c d) q back h =
-          let i = f k s l a b c d q in
+      go (Err e) q back h = no_got h
+      go (Ok ns) q back h =
+          let i = f k s l ns.first ns.second ns.third ns.fourth q in
           let t = back (next k s i.x) (rw (← i.stored) h) in
           record {
             items = i.x ∷ t.items;

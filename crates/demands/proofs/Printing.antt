@@ -1,14 +1,14 @@
 -- A text isn't refused exactly where it is printed from a sheet that keeps to the rules.
 -- Assumes nothing.
+use Rattle.sheet.specs.Numbers.{Record}
+use Rattle.std.specs.Prelude.{Ok, Err, Some, None}
 use mathlib.Core.Path.{◌≡◌, refl, sym, ap, ap₂, ◌∙◌, subst}
 use mathlib.Core.List.{List, [], ◌∷◌, ◌++◌, append_assoc, append-nil}
 use Prim.Native.Nat.{ℕ, zero, suc, ◌+◌, ◌<◌, ◌≤◌}
 use native.Mathlib.Omega.{arith}
 use lib.ListN.{length, set, take, length-set}
-use Rattle.sheet.specs.declared.Record.{Record}
-use Rattle.sheet.specs.declared.Flow.{Flow}
-use Rattle.sheet.specs.declared.Flow.TheVariants as flow
-use Rattle.sheet.specs.Records.{position, box_line, flow_line, on_flow}
+use Rattle.sheet.specs.declared.Arrows.TheVariants as flow
+use Rattle.sheet.specs.Records.{Flow, position, box_line, flow_line, on_flow}
 use Rattle.model.specs.Arrows.{drawn}
 use Rattle.sheet.specs.Phases.{got, refused, flows}
 use Rattle.demands.specs.Printed as paper
@@ -35,10 +35,10 @@ flows_back ids k arrows (l ∷ ls) n {arrows'} {ls'} {n'} h =
     go : (r : Flow) → Drawing ids l r → ((a : List ℕ) → flows ids a ls (suc n) ≡ got arrows' ls' n' → Arrows ids (suc k) ls ls') →
         on_flow r (λ v u. flows ids (drawn v u arrows) ls (suc n)) (λ v u. flows ids (drawn u v (drawn v u arrows)) ls (suc n)) (λ e. refused e n) (got arrows (l ∷ ls) n)
         ≡ got arrows' ls' n' → Arrows ids k (l ∷ ls) ls'
-    go (flow.One v u) d back h = more d (back _ h)
-    go (flow.Two v u) d back h = more d (back _ h)
-    go (flow.Not e) d back h = no_got h
-    go flow.Other d back h = record { items = []; good = tt; lines_are = cc }
+    go (Ok (Some (flow.One v u))) d back h = more d (back _ h)
+    go (Ok (Some (flow.Two v u))) d back h = more d (back _ h)
+    go (Err e) d back h = no_got h
+    go (Ok None) d back h = record { items = []; good = tt; lines_are = cc }
 
 -- what arrows make of rows, one after the other
 unfoldable pub draw_all : List ℕ → List ℕ → List Drawn → List ℕ
@@ -47,7 +47,7 @@ draw_all ids arrows (paper.flow i j ∷ xs) = draw_all ids (drawn (position ids 
 draw_all ids arrows (paper.both i j ∷ xs) = draw_all ids (drawn (position ids j) (position ids i) (drawn (position ids i) (position ids j) arrows)) xs
 
 -- they end where a line draws nothing
-pub flows_print : (ids : List ℕ) (k : ℕ) (xs : List Drawn) (arrows : List ℕ) (l : List ℕ) (ls : List (List ℕ)) (n : ℕ) → Each (Arrow ids) xs → flow_line ids l ≡ flow.Other →
+pub flows_print : (ids : List ℕ) (k : ℕ) (xs : List Drawn) (arrows : List ℕ) (l : List ℕ) (ls : List (List ℕ)) (n : ℕ) → Each (Arrow ids) xs → flow_line ids l ≡ Ok None →
     (m : ℕ) × (flows ids arrows (glues (rows_from (λ _. arrow_row) k xs) ++ (l ∷ ls)) n ≡ got (draw_all ids arrows xs) (l ∷ ls) m)
 unfolding flows glues rows_from draw_all
 flows_print ids k [] arrows l ls n h e = (n, rw e refl)

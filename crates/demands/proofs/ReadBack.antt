@@ -1,5 +1,8 @@
 -- A text that isn't refused is printed from a sheet that keeps to the rules.
 -- Assumes nothing.
+use Rattle.std.specs.Prelude.{Ok, Err}
+use Rattle.model.specs.declared.refusal.Refusal.{Refusal}
+use Rattle.model.specs.declared.refusal.Refusal.TheVariants as why
 use mathlib.Core.Path.{◌≡◌, refl, sym, ap, ap₂, ◌∙◌, subst}
 use mathlib.Core.Bool.{Bool, true, false, cond, ◌&&◌}
 use mathlib.Core.List.{List, [], ◌∷◌, ◌++◌, append-nil}
@@ -13,9 +16,7 @@ use Rattle.model.specs.Made.{sizes_from}
 use Rattle.model.specs.Good.{GoodSizes}
 use Rattle.model.specs.declared.Sizes.{Sizes}
 use Rattle.text.specs.Lines.{lines}
-use Rattle.sheet.specs.declared.Record.{Record}
-use Rattle.sheet.specs.declared.Record.TheVariants.{Numbers, Not}
-use Rattle.sheet.specs.Numbers.{on_record}
+use Rattle.sheet.specs.Numbers.{Record, said, on_record}
 use Rattle.sheet.specs.Records.{sized, position, sheet_line, act_line, go_line, view_line}
 use Rattle.model.specs.Arrows.{selves}
 use Rattle.sheet.specs.Phases.{Got, got, refused, Steps, steps, boxes, acts, goes, flows, views}
@@ -55,7 +56,7 @@ module _ (ids : List ℕ) where
   abbrev pub ActAt : ℕ → List ℕ → ℕ → Type 0
   ActAt k _ id = Known ids id
 
-  acts_back : (k : ℕ) (s l : List ℕ) (a b c d : ℕ) → acts_line k s l ≡ Numbers a b c d → Item acts_line store_act (λ _. act_row) next_act ActAt k s l a b c d
+  acts_back : (k : ℕ) (s l : List ℕ) (a b c d : ℕ) → acts_line k s l ≡ said a b c d → Item acts_line store_act (λ _. act_row) next_act ActAt k s l a b c d
   acts_back k s l a b c d h = let x = act_back ids l h in record { x = x.id; is = x.is; good = x.good; stored = ap (set s k) x.at }
 
 module _ (states actions : ℕ) where
@@ -71,7 +72,7 @@ module _ (states actions : ℕ) where
   abbrev pub GoAt : ℕ → Steps → Step → Type 0
   GoAt k _ x = Went states actions k x
 
-  goes_back : (k : ℕ) (s : Steps) (l : List ℕ) (a b c d : ℕ) → goes_line k s l ≡ Numbers a b c d → Item goes_line store_go (go_row actions) next_go GoAt k s l a b c d
+  goes_back : (k : ℕ) (s : Steps) (l : List ℕ) (a b c d : ℕ) → goes_line k s l ≡ said a b c d → Item goes_line store_go (go_row actions) next_go GoAt k s l a b c d
   goes_back k s l a b c d h =
       let x = go_back states actions k l h in
       record { x = x.step; is = x.is; good = x.good; stored = ap₂ (λ n o. steps (set s.next k n) (set s.outputs k o)) x.next_is x.output_is }
@@ -89,10 +90,10 @@ module _ (ids : List ℕ) (states : ℕ) where
   abbrev pub ViewAt : ℕ → List ℕ → ℕ → Type 0
   ViewAt k _ class = Seen ids states k class
 
-  views_back : (k : ℕ) (s l : List ℕ) (a b c d : ℕ) → views_line k s l ≡ Numbers a b c d → Item views_line store_view (view_row ids states) next_view ViewAt k s l a b c d
+  views_back : (k : ℕ) (s l : List ℕ) (a b c d : ℕ) → views_line k s l ≡ said a b c d → Item views_line store_view (view_row ids states) next_view ViewAt k s l a b c d
   views_back k s l a b c d h = let x = view_back ids states k l h in record { x = c; is = x.is; good = x.good; stored = refl }
 
-boxes_back : (k : ℕ) (s l : List ℕ) (a b c d : ℕ) → boxes_line k s l ≡ Numbers a b c d → Item boxes_line store_box (λ _. box_row) next_box BoxAt k s l a b c d
+boxes_back : (k : ℕ) (s l : List ℕ) (a b c d : ℕ) → boxes_line k s l ≡ said a b c d → Item boxes_line store_box (λ _. box_row) next_box BoxAt k s l a b c d
 boxes_back k s l a b c d h = let x = box_back (take k s) l h in record { x = x.x; is = x.is; good = x.good; stored = ap (set s k) x.at }
 
 -- ---- the rules of each item, from those of its place
@@ -221,7 +222,7 @@ module _ (t : List ℕ) (a b c d : ℕ) (z : GoodSizes (sizes_from a b c d)) (ls
       (all_glues (rows_from (λ _. box_row) 0 w.bs) (rows_from (λ _. act_row) 0 w.rest.owns) (rows_from (go_row b) 0 w.rest.gs)
       (rows_from (λ _. arrow_row) 0 w.rest.xs) (rows_from (view_row (ids_of w.bs) a) 0 w.rest.cs) ∙ ap (λ r. glues (rows_from (λ _. box_row) 0 w.bs) ++ r) (sym w.rest.lines_are) ∙ sym w.lines_are)
 
-pub no_model : {X : Type 0} {n l : ℕ} {z : Sizes} {p : Parts} → refusal n l ≡ model z p → X
+pub no_model : {X : Type 0} {n : Refusal} {l : ℕ} {z : Sizes} {p : Parts} → refusal n l ≡ model z p → X
 no_model h = let d : ◌≡◌ {A = ℕ} 0 1 = cc in absurd (omega arith)
 
 record Finished (g : Got Parts) : Type 0 where
@@ -246,17 +247,17 @@ from_lines t q [] e h = no_model h
 from_lines t q (l ∷ ls) e {y} {p} h = go (sheet_line l) refl h
   where
     go : (r : Record) → sheet_line l ≡ r → on_record r (λ a b c d. finish (parts a b c empty_steps (zeros VIEW_ENTRIES) ls 2) (model (sizes_from a b c d))) (λ e. refusal e 1) ≡ model y p → PrintedFrom t
-    go (Not n) s h = no_model h
-    go (Numbers a b c d) s h =
+    go (Err n) s h = no_model h
+    go (Ok ns) s h =
         let z = sheet_good l s in
-        let f = finished (parts a b c empty_steps (zeros VIEW_ENTRIES) ls 2) (sizes_from a b c d) h in
-        let w = body_back a b empty_steps (zeros VIEW_ENTRIES) c z.boxes_most ls 2 f.is in
+        let f = finished (parts ns.first ns.second ns.third empty_steps (zeros VIEW_ENTRIES) ls 2) (sizes_from ns.first ns.second ns.third ns.fourth) h in
+        let w = body_back ns.first ns.second empty_steps (zeros VIEW_ENTRIES) ns.third z.boxes_most ls 2 f.is in
         let k = both_true (sized SHEET_BYTES (length t)) (eqb (get_or t (length t - 1) 0) 10) q in
         record {
-          page = page_of t a b c d z ls w;
-          good = page_good t a b c d z ls w;
-          is = text_unlines (rows_of (page_of t a b c d z ls w))
-              ∙ ap unlines (page_lines t a b c d z ls w ∙ ap (λ x. x ∷ ls) (sym (sheet_back l s)) ∙ sym e) ∙ ended_lines t (eqb-true _ _ k.1);
+          page = page_of t ns.first ns.second ns.third ns.fourth z ls w;
+          good = page_good t ns.first ns.second ns.third ns.fourth z ls w;
+          is = text_unlines (rows_of (page_of t ns.first ns.second ns.third ns.fourth z ls w))
+              ∙ ap unlines (page_lines t ns.first ns.second ns.third ns.fourth z ls w ∙ ap (λ x. x ∷ ls) (sym (sheet_back l s)) ∙ sym e) ∙ ended_lines t (eqb-true _ _ k.1);
           short = leb-true _ _ (both_true (ltb 0 (length t)) (leb (length t) SHEET_BYTES) k.0).1;
         }
 
@@ -264,6 +265,6 @@ pub model_printed : (t : List ℕ) {z : Sizes} {p : Parts} → sheet_text t ≡ 
 unfolding sheet_text
 model_printed t {z} {p} h = go (fitting t) refl h
   where
-    go : (u : Bool) → fitting t ≡ u → cond u (sheet_lines empty_steps (zeros VIEW_ENTRIES) (lines t)) (refusal 1 0) ≡ model z p → PrintedFrom t
+    go : (u : Bool) → fitting t ≡ u → cond u (sheet_lines empty_steps (zeros VIEW_ENTRIES) (lines t)) (refusal why.Text 0) ≡ model z p → PrintedFrom t
     go true q h = from_lines t q (lines t) refl h
     go false q h = no_model h

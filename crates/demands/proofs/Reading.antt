@@ -18,11 +18,15 @@ use Rattle.sheet.specs.Words as words
 use Rattle.sheet.specs.Numbers.{word}
 use Rattle.sheet.specs.Table.{Row}
 use Rattle.sheet.specs.Meaning.{Situation, at_sheet, at_box, at_act, at_go, at_flow, at_view, at_end, rows_at, FirstRow, here, later, Refused, ended, bad, good, RefusedText, whole, by_line}
-use Rattle.sheet.specs.Reading.{Parts, Reading, model, refusal, given, Outcome, outcome, refused_as, zeros, read, sheet_text}
+use Rattle.sheet.specs.Reading.{Parts, Reading, model, refusal, given, Outcome, outcome, zeros, read, sheet_text}
 use Rattle.sheet.proofs.Table.{refused_means, means_refused}
-use Rattle.sheet.specs.declared.Answer.{Answer}
-use Rattle.sheet.specs.declared.Answer.TheVariants as answers
-use Rattle.sheet.specs.Label.{label_place, placed, found_in, label_found, labelled, label_of, label}
+use Rattle.std.specs.Prelude.{Result, Ok, Err}
+use Rattle.model.specs.Refusal.{number_of, refused_as}
+use Rattle.model.specs.declared.Model.{Model}
+use Rattle.model.specs.declared.refusal.Refusal as named
+use Rattle.model.specs.declared.refusal.Refusal.TheVariants as why
+use Rattle.model.specs.declared.refusal.Refused as refused
+use Rattle.sheet.specs.Label.{Label, label_place, found_in, label_found, label_of, label}
 use Rattle.zarpalume.specs.Verdict.{call, call_of}
 use Rattle.zarpalume.proofs.Called.{call_bad}
 use Rattle.demands.specs.Refusals.{ThreeTables, TextRefusal, ten, text, LabelRefusal, thirteen, left}
@@ -34,9 +38,9 @@ of_text n = either (both (ltb 0 n) (leb n 9)) (eqb n 11)
 
 unfoldable all_of_text : List Row → Bool
 all_of_text [] = true
-all_of_text (x ∷ xs) = both (of_text x.number) (all_of_text xs)
+all_of_text (x ∷ xs) = both (of_text (number_of x.refusal)) (all_of_text xs)
 
-first_of_text : {xs : List Row} {e : ℕ} → all_of_text xs ≡ true → FirstRow xs e → of_text e ≡ true
+first_of_text : {xs : List Row} {e : named.Refusal} → all_of_text xs ≡ true → FirstRow xs e → of_text (number_of e) ≡ true
 unfolding all_of_text
 first_of_text h (here e) = (both_true _ _ h).0
 first_of_text h (later e f) = first_of_text (both_true _ _ h).1 f
@@ -51,13 +55,13 @@ rows_of_text (at_flow z ids) l = by_test (same (word l) words.flow) (λ e. rw e 
 rows_of_text (at_view z ids k) l = refl
 rows_of_text at_end l = refl
 
-lines_of_text : {s : Situation} {ls : List (List ℕ)} {n e m : ℕ} → Refused s ls n e m → of_text e ≡ true
+lines_of_text : {s : Situation} {ls : List (List ℕ)} {n m : ℕ} {e : named.Refusal} → Refused s ls n e m → of_text (number_of e) ≡ true
 unfolding of_text either both
 lines_of_text (ended c) = refl
 lines_of_text (bad {s} {l} f) = first_of_text (rows_of_text s l) f
 lines_of_text (good a b c d f e r) = lines_of_text r
 
-pub number_of_text : {t : List ℕ} {e n : ℕ} → RefusedText t e n → of_text e ≡ true
+pub number_of_text : {t : List ℕ} {e : named.Refusal} {n : ℕ} → RefusedText t e n → of_text (number_of e) ≡ true
 unfolding of_text either both
 number_of_text (whole q) = refl
 number_of_text (by_line q r) = lines_of_text r
@@ -88,18 +92,18 @@ module _ (t next outputs views : List ℕ) where
       (λ e. f.0 (sym s ∙ e), λ h. s ∙ f.1 h)
 
   -- what a refusal gives back
-  abbrev refused_with : ℕ → ℕ → Outcome
-  refused_with n l = outcome (refused_as n l) (left n next) (left n outputs) (left n views)
+  abbrev refused_with : named.Refusal → ℕ → Outcome
+  refused_with n l = outcome (Err (refused_as n l)) (left (number_of n) next) (left (number_of n) outputs) (left (number_of n) views)
 
-  left_ten : outcome (refused_as 10 0) next outputs views ≡ refused_with 10 0
+  left_ten : outcome (Err (refused_as why.Length 0)) next outputs views ≡ refused_with why.Length 0
   unfolding left choose
   left_ten = refl
 
-  left_text : {n l : ℕ} → ThreeTables next outputs views → eqb n 10 ≡ false → given (refusal n l) ≡ refused_with n l
+  left_text : {n : named.Refusal} {l : ℕ} → ThreeTables next outputs views → eqb (number_of n) 10 ≡ false → given (refusal n l) ≡ refused_with n l
   unfolding left choose zeros
   left_text h e = rw (e, h.0, h.1, h.2)
 
-  wrong : ¬ ThreeTables next outputs views → read t next outputs views ≡ refused_with 10 0
+  wrong : ¬ ThreeTables next outputs views → read t next outputs views ≡ refused_with why.Length 0
   unfolding read
   wrong k = by_test (eqb (length next) NEXT_ENTRIES && eqb (length outputs) OUTPUT_ENTRIES && eqb (length views) VIEW_ENTRIES)
       (λ e. absurd (k (lengths_test.0 e))) (λ e. rw e left_ten)
@@ -108,66 +112,67 @@ module _ (t next outputs views : List ℕ) where
   unfolding read
   right h = rw (lengths_test.1 h)
 
-  abbrev answer_of : Outcome → Answer
-  answer_of r = r.sheet.answer
+  abbrev answer_of : Outcome → Result Model refused.Refused
+  answer_of r = r.answer
 
   abbrev answered : Outcome
   answered = read t next outputs views
 
-  as_said : {n l : ℕ} → TextRefusal (ThreeTables next outputs views) t n l → answered ≡ refused_with n l
+  as_said : {n : named.Refusal} {l : ℕ} → TextRefusal (ThreeTables next outputs views) t n l → answered ≡ refused_with n l
   as_said (ten k) = wrong k
   as_said (text h r) = right h ∙ ap given (means_refused t _ _ r) ∙ left_text h (not_ten _ (number_of_text r))
 
-  moved : {n l n' l' : ℕ} → answer_of answered ≡ answers.Refused n' l' → TextRefusal (ThreeTables next outputs views) t n l → TextRefusal (ThreeTables next outputs views) t n' l'
-  moved {n} {l} {n'} {l'} e r =
-      let o : answers.Refused n l ≡ answers.Refused n' l' = sym (ap answer_of (as_said r)) ∙ e in
-      let a : n ≡ n' = cc in let b : l ≡ l' = cc in
+  moved : {n n' : named.Refusal} {l l' : ℕ} → answer_of answered ≡ Err (refused_as n' l') → TextRefusal (ThreeTables next outputs views) t n l → TextRefusal (ThreeTables next outputs views) t n' l'
+  moved {n} {n'} {l} {l'} e r =
+      let o : Err (refused_as n l) ≡ Err (refused_as n' l') = sym (ap answer_of (as_said r)) ∙ e in
+      let w : refused_as n l ≡ refused_as n' l' = cc in
+      let a : n ≡ n' = ap (λ (x : refused.Refused). x.refusal) w in let b : l ≡ l' = ap (λ (x : refused.Refused). x.line) w in
       rw (← a, ← b) r
 
-  only_then : {n l : ℕ} → answer_of answered ≡ answers.Refused n l → TextRefusal (ThreeTables next outputs views) t n l
+  only_then : {n : named.Refusal} {l : ℕ} → answer_of answered ≡ Err (refused_as n l) → TextRefusal (ThreeTables next outputs views) t n l
   only_then {n} {l} e =
       by_test (eqb (length next) NEXT_ENTRIES && eqb (length outputs) OUTPUT_ENTRIES && eqb (length views) VIEW_ENTRIES)
       (λ f. let h = lengths_test.0 f in as_read h (sheet_text t) refl (sym (ap answer_of (right h)) ∙ e))
       (λ f. moved e (ten (λ h. not_both (lengths_test.1 h) f)))
     where
-      as_read : ThreeTables next outputs views → (rd : Reading) → sheet_text t ≡ rd → answer_of (given rd) ≡ answers.Refused n l → TextRefusal (ThreeTables next outputs views) t n l
+      as_read : ThreeTables next outputs views → (rd : Reading) → sheet_text t ≡ rd → answer_of (given rd) ≡ Err (refused_as n l) → TextRefusal (ThreeTables next outputs views) t n l
       as_read h (model z p) q o = absurd (let d : ◌≡◌ {A = ℕ} 0 1 = cc in omega arith)
       as_read h (refusal n' l') q o = moved e (text h (refused_means t n' l' q))
 
-  pub read_refused : (n l : ℕ) → TextRefusal (ThreeTables next outputs views) t n l ↔ (answer_of answered ≡ answers.Refused n l)
+  pub read_refused : (n : named.Refusal) (l : ℕ) → TextRefusal (ThreeTables next outputs views) t n l ↔ (answer_of answered ≡ Err (refused_as n l))
   read_refused n l = (λ r. ap answer_of (as_said r), only_then)
 
-  pub read_whole : (n l : ℕ) → answer_of answered ≡ answers.Refused n l → answered ≡ refused_with n l
+  pub read_whole : (n : named.Refusal) (l : ℕ) → answer_of answered ≡ Err (refused_as n l) → answered ≡ refused_with n l
   read_whole n l e = as_said (only_then e)
 
 -- ---- the label call
 module _ (t : List ℕ) (position : ℕ) where
-  pub label_whole : {n l : ℕ} → LabelRefusal t position n l → label t position ≡ labelled [] 0 n l
+  label_whole : {n : named.Refusal} {l : ℕ} → LabelRefusal t position n l → label t position ≡ Err (refused_as n l)
   unfolding label_found
   label_whole (text r) = ap (λ rd. label_of t (found_in rd t position)) (means_refused t _ _ r)
   label_whole (thirteen z p e h) = ap (λ rd. label_of t (found_in rd t position)) e ∙ rw (le-ltb _ _ h) refl
 
-  some_number : {n l : ℕ} → LabelRefusal t position n l → 0 < n
-  some_number (text r) = (number_small _ (number_of_text r)).0
-  some_number (thirteen z p e h) = omega arith
-
   pub label_found_lem : (z : Sizes) (p : Parts) → sheet_text t ≡ model z p → position < z.boxes →
-      label t position ≡ label_of t (placed (label_place t position))
+      label t position ≡ label_of t (Ok (label_place t position))
   unfolding label_found
   label_found_lem z p e h = ap (λ rd. label_of t (found_in rd t position)) e ∙ rw (lt-ltb _ _ h) refl
 
-  moved_label : {n l n' l' : ℕ} → (label t position).number ≡ n' → (label t position).line ≡ l' → LabelRefusal t position n l → LabelRefusal t position n' l'
-  moved_label a b r = let w = label_whole r in rw (← a, ← b, w) r
+  moved_label : {n n' : named.Refusal} {l l' : ℕ} → label t position ≡ Err (refused_as n' l') → LabelRefusal t position n l → LabelRefusal t position n' l'
+  moved_label {n} {n'} {l} {l'} e r =
+      let o : ◌≡◌ {A = Result Label refused.Refused} (Err (refused_as n l)) (Err (refused_as n' l')) = sym (label_whole r) ∙ e in
+      let w : refused_as n l ≡ refused_as n' l' = cc in
+      let a : n ≡ n' = ap (λ (x : refused.Refused). x.refusal) w in let b : l ≡ l' = ap (λ (x : refused.Refused). x.line) w in
+      rw (← a, ← b) r
 
-  pub label_refused : (n l : ℕ) → LabelRefusal t position n l ↔ ((0 < n) × ((label t position).number ≡ n) × ((label t position).line ≡ l))
-  label_refused n l = (λ r. (some_number r, ap (λ x. x.number) (label_whole r), ap (λ x. x.line) (label_whole r)), λ h. from h (sheet_text t) refl)
+  pub label_refused : (n : named.Refusal) (l : ℕ) → LabelRefusal t position n l ↔ (label t position ≡ Err (refused_as n l))
+  label_refused n l = (λ r. label_whole r, λ h. from h (sheet_text t) refl)
     where
-      from : (0 < n) × ((label t position).number ≡ n) × ((label t position).line ≡ l) → (rd : Reading) → sheet_text t ≡ rd → LabelRefusal t position n l
+      from : label t position ≡ Err (refused_as n l) → (rd : Reading) → sheet_text t ≡ rd → LabelRefusal t position n l
       from h (model z p) q =
           by_test (ltb position z.boxes)
-          (λ b. let d : 0 ≡ n = sym (ap (λ x. x.number) (label_found_lem z p q (ltb-true _ _ b))) ∙ h.1 in absurd (omega (arith, h.0)))
-          (λ b. moved_label h.1 h.2 (thirteen z p q (ltb-false _ _ b)))
-      from h (refusal n' l') q = moved_label h.1 h.2 (text (refused_means t n' l' q))
+          (λ b. let w = sym (label_found_lem z p q (ltb-true _ _ b)) ∙ h in absurd (let d : ◌≡◌ {A = ℕ} 0 1 = cc in omega arith))
+          (λ b. moved_label h (thirteen z p q (ltb-false _ _ b)))
+      from h (refusal n' l') q = moved_label h (text (refused_means t n' l' q))
 
 -- ---- the verdict
 pub verdict_refused : (t buffer : List ℕ) → ¬ (length buffer ≡ VERDICT_BYTES) → call_of t buffer ≡ call 0 buffer

@@ -1,5 +1,8 @@
 -- A record of a word and numbers is good exactly where its line is the word and the numbers' decimal forms, parted by tabs.
 -- Assumes nothing.
+use Rattle.std.specs.Prelude.{Err, Option, Some, None}
+use Rattle.model.specs.declared.refusal.Refusal.{Refusal}
+use Rattle.model.specs.declared.refusal.Refusal.TheVariants as why
 use mathlib.Core.Path.{◌≡◌, refl, sym, ap, ap₂, ◌∙◌, subst}
 use mathlib.Core.Bool.{Bool, true, false}
 use mathlib.Core.List.{List, [], ◌∷◌}
@@ -11,14 +14,11 @@ use borrow.Author.Tests.{eq-eqb, eqb-true}
 use Rattle.laws.specs.Lists.{All}
 use Rattle.text.specs.Number.{on_number, number, decimal}
 use Rattle.text.specs.Lines.{onto, fields, same}
-use Rattle.text.specs.declared.Number.{Number}
-use Rattle.text.specs.declared.Number.TheVariants as numbers
 use Rattle.text.proofs.Digits.{read_decimal, number_limit}
 use Rattle.text.proofs.Parts.{same_is}
-use Rattle.sheet.specs.declared.Record.TheVariants.{Numbers, Not}
 use Rattle.sheet.specs.Numbers as records
-use Rattle.sheet.specs.Numbers.{four, each, word, rest, record_of}
-use Rattle.sheet.proofs.Good.{passed}
+use Rattle.sheet.specs.Numbers.{Record, said, four, each, word, rest, record_of}
+use Rattle.sheet.proofs.Good.{same_numbers, passed}
 use Rattle.demands.specs.Printed.{Row}
 use Rattle.demands.proofs.Rows.{Plain, PlainRow, glue, fields_back, decimal_plain}
 use Rattle.demands.proofs.Canonical.{number_is}
@@ -89,27 +89,27 @@ each_print [] (w ∷ ws) k vs m h = absurd h
 each_print (l ∷ ms) [] k vs m h = absurd h
 each_print (l ∷ ms) (w ∷ ws) k vs m h =
     let a = h.0 in let b = m.0 in
-    ap (λ n. on_number n (λ v. each ms (decimals ws) (suc k) (set vs k v)) (Not 4)) (read_decimal l w h.0 (omega arith))
+    ap (λ n. on_number n (λ v. each ms (decimals ws) (suc k) (set vs k v)) (Err why.Number)) (read_decimal l w h.0 (omega arith))
     ∙ each_print ms ws (suc k) (set vs k w) m.1 h.1
 
 pub record Back (ms : List ℕ) (fs : Row) (k : ℕ) (vs : List ℕ) (a b c d : ℕ) : Type 0 where
   pub ws : List ℕ
   pub small : Smalls ms ws
   pub fields_are : fs ≡ decimals ws
-  pub numbers : four (set_all k ws vs) ≡ Numbers a b c d
+  pub numbers : four (set_all k ws vs) ≡ said a b c d
 
-no_numbers : {A : Type 0} {e a b c d : ℕ} → Not e ≡ Numbers a b c d → A
+no_numbers : {A : Type 0} {e : Refusal} {a b c d : ℕ} → Err e ≡ said a b c d → A
 no_numbers h = let z : ◌≡◌ {A = ℕ} 0 1 = cc in absurd (omega arith)
 
-each_back : (ms : List ℕ) (fs : Row) (k : ℕ) (vs : List ℕ) {a b c d : ℕ} → Limits ms → length fs ≡ length ms → each ms fs k vs ≡ Numbers a b c d → Back ms fs k vs a b c d
+each_back : (ms : List ℕ) (fs : Row) (k : ℕ) (vs : List ℕ) {a b c d : ℕ} → Limits ms → length fs ≡ length ms → each ms fs k vs ≡ said a b c d → Back ms fs k vs a b c d
 unfolding each decimals set_all
 each_back [] [] k vs m e h = record { ws = []; small = tt; fields_are = refl; numbers = h }
 each_back [] (f ∷ fs) k vs m e h = absurd (omega arith)
 each_back (l ∷ ms) [] k vs m e h = absurd (omega arith)
 each_back (l ∷ ms) (f ∷ fs) k vs {a} {b} {c} {d} m e h = go (λ v h. each_back ms fs (suc k) (set vs k v) m.1 (omega arith) h) (number l f) refl h
   where
-    go : ((v : ℕ) → each ms fs (suc k) (set vs k v) ≡ Numbers a b c d → Back ms fs (suc k) (set vs k v) a b c d) → (n : Number) → number l f ≡ n → on_number n (λ v. each ms fs (suc k) (set vs k v)) (Not 4) ≡ Numbers a b c d → Back (l ∷ ms) (f ∷ fs) k vs a b c d
-    go back (numbers.Good v) q h =
+    go : ((v : ℕ) → each ms fs (suc k) (set vs k v) ≡ said a b c d → Back ms fs (suc k) (set vs k v) a b c d) → (n : Option ℕ) → number l f ≡ n → on_number n (λ v. each ms fs (suc k) (set vs k v)) (Err why.Number) ≡ said a b c d → Back (l ∷ ms) (f ∷ fs) k vs a b c d
+    go back (Some v) q h =
         let i = back v h in
         record {
           ws = v ∷ i.ws;
@@ -117,7 +117,7 @@ each_back (l ∷ ms) (f ∷ fs) k vs {a} {b} {c} {d} m e h = go (λ v h. each_ba
           fields_are = ap₂ (λ x xs. x ∷ xs) (number_is l v f m.0 q) i.fields_are;
           numbers = i.numbers;
         }
-    go back numbers.Bad q h = no_numbers h
+    go back None q h = no_numbers h
 
 -- ---- a whole record
 pub same_self : (xs : List ℕ) → same xs xs ≡ true
@@ -142,14 +142,14 @@ record_print w ms ws p m h =
 abbrev pub first : List ℕ → ℕ → ℕ → ℕ → ℕ → List ℕ
 first ms a b c d = take (length ms) (a ∷ b ∷ c ∷ d ∷ [])
 
-values_are : (ws : List ℕ) (n : ℕ) {a b c d : ℕ} → length ws ≡ n → n ≤ 4 → four (set_all 0 ws none) ≡ Numbers a b c d → ws ≡ take n (a ∷ b ∷ c ∷ d ∷ [])
+values_are : (ws : List ℕ) (n : ℕ) {a b c d : ℕ} → length ws ≡ n → n ≤ 4 → four (set_all 0 ws none) ≡ said a b c d → ws ≡ take n (a ∷ b ∷ c ∷ d ∷ [])
 unfolding set_all
 values_are [] n e l h = rw (← e) refl
-values_are (x ∷ []) n {a} e l h = let p : x ≡ a = cc in rw (← e, p) refl
-values_are (x ∷ y ∷ []) n {a} {b} e l h = let p : x ≡ a = cc in let q : y ≡ b = cc in rw (← e, p, q) refl
-values_are (x ∷ y ∷ z ∷ []) n {a} {b} {c} e l h = let p : x ≡ a = cc in let q : y ≡ b = cc in let r : z ≡ c = cc in rw (← e, p, q, r) refl
+values_are (x ∷ []) n {a} e l h = let p : x ≡ a = (same_numbers h).first in rw (← e, p) refl
+values_are (x ∷ y ∷ []) n {a} {b} e l h = let p : x ≡ a = (same_numbers h).first in let q : y ≡ b = (same_numbers h).second in rw (← e, p, q) refl
+values_are (x ∷ y ∷ z ∷ []) n {a} {b} {c} e l h = let p : x ≡ a = (same_numbers h).first in let q : y ≡ b = (same_numbers h).second in let r : z ≡ c = (same_numbers h).third in rw (← e, p, q, r) refl
 values_are (x ∷ y ∷ z ∷ w ∷ []) n {a} {b} {c} {d} e l h =
-    let p : x ≡ a = cc in let q : y ≡ b = cc in let r : z ≡ c = cc in let s : w ≡ d = cc in rw (← e, p, q, r, s) refl
+    let p : x ≡ a = (same_numbers h).first in let q : y ≡ b = (same_numbers h).second in let r : z ≡ c = (same_numbers h).third in let s : w ≡ d = (same_numbers h).fourth in rw (← e, p, q, r, s) refl
 values_are (x ∷ y ∷ z ∷ w ∷ v ∷ vs) n e l h = absurd (omega arith)
 
 smalls_length : (ms ws : List ℕ) → Smalls ms ws → length ws ≡ length ms
@@ -162,11 +162,11 @@ pub record Line (w ms l : List ℕ) (a b c d : ℕ) : Type 0 where
   pub small : Smalls ms (first ms a b c d)
   pub is : l ≡ glue (w ∷ decimals (first ms a b c d))
 
-pub record_back : (w ms l : List ℕ) {a b c d : ℕ} → Limits ms → length ms ≤ 4 → record_of w ms l ≡ Numbers a b c d → Line w ms l a b c d
+pub record_back : (w ms l : List ℕ) {a b c d : ℕ} → Limits ms → length ms ≤ 4 → record_of w ms l ≡ said a b c d → Line w ms l a b c d
 unfolding record_of records.numbers
 record_back w ms l m few h =
-    let p = passed (same (word l) w) 2 h in
-    let q = passed (eqb (length (rest l)) (length ms)) 3 p.1 in
+    let p = passed (same (word l) w) why.Record h in
+    let q = passed (eqb (length (rest l)) (length ms)) why.Fields p.1 in
     let b = each_back ms (rest l) 0 none m (eqb-true _ _ q.0) q.1 in
     let v = values_are b.ws (length ms) (smalls_length ms b.ws b.small) few b.numbers in
     record {

@@ -1,5 +1,6 @@
 -- A text of lines of fields says its fields: two such texts with the same bytes have the same fields.
 -- Assumes nothing.
+use Rattle.std.specs.Prelude.{Some}
 use mathlib.Core.Path.{◌≡◌, refl, sym, ap, ◌∙◌}
 use mathlib.Core.Logic.{◌↔◌}
 use mathlib.Core.Bool.{Bool, true, false, cond}
@@ -12,7 +13,6 @@ use borrow.Author.Tests.{ne_eqb}
 use Rattle.laws.specs.Lists.{All}
 use Rattle.text.specs.Lines.{onto, lines, fields}
 use Rattle.text.specs.Number.{digits, decimal, number}
-use Rattle.text.specs.declared.Number.TheVariants.{Good}
 use Rattle.text.proofs.Digits.{read_decimal}
 use Rattle.zarpalume.specs.Lines.{line}
 use Rattle.demands.specs.Printed.{Row, text}
@@ -113,4 +113,4 @@ decimal_plain v = digits_plain 10 v
 
 pub decimal_once : (v w : ℕ) → v ≤ 4294967295 → w ≤ 4294967295 → decimal v ≡ decimal w → v ≡ w
 decimal_once v w hv hw e =
-    let a : Good v ≡ Good w = sym (read_decimal 4294967295 v hv hv) ∙ ap (number 4294967295) e ∙ read_decimal 4294967295 w hw hw in cc
+    let a : Some v ≡ Some w = sym (read_decimal 4294967295 v hv hv) ∙ ap (number 4294967295) e ∙ read_decimal 4294967295 w hw hw in cc

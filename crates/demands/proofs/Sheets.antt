@@ -1,5 +1,7 @@
 -- A text isn't refused exactly where it is printed from a sheet that keeps to the rules.
 -- Assumes nothing.
+use Rattle.sheet.specs.Numbers.{Record}
+use Rattle.model.specs.declared.refusal.Refusal.{Refusal}
 use mathlib.Core.Path.{◌≡◌, refl, sym, ap, ◌∙◌}
 use mathlib.Core.Logic.{◌↔◌}
 use mathlib.Core.Bool.{true}
@@ -12,7 +14,6 @@ use borrow.Author.Tests.{eq-eqb, lt-ltb, le-leb}
 use Rattle.model.specs.Limits.{BOXES, ACTIONS, VIEW_ENTRIES, SHEET_BYTES, LARGEST_ID, LARGEST_NUMBER, STATES}
 use Rattle.model.specs.Good.{GoodSizes}
 use Rattle.text.specs.Lines.{lines}
-use Rattle.sheet.specs.declared.Record.{Record}
 use Rattle.sheet.specs.Records.{position}
 use Rattle.sheet.specs.Phases as phases
 use Rattle.model.specs.Arrows.{selves}
@@ -249,7 +250,7 @@ module _ (p : Paper) (g : Good p) where
       rw (fits l, printed, sheet_print p.states p.actions (length p.boxes) p.start sizes, r.is) refl
 
 -- ---- the theorem
-pub unrefused↔printed : (t : List ℕ) → ((n l : ℕ) → ¬ RefusedText t n l) ↔ PrintedFrom t
+pub unrefused↔printed : (t : List ℕ) → ((n : Refusal) (l : ℕ) → ¬ RefusedText t n l) ↔ PrintedFrom t
 unrefused↔printed t = (
   λ h. to h (sheet_text t) refl,
   λ f n l r.
@@ -257,6 +258,6 @@ unrefused↔printed t = (
       no_model (sym (means_refused t n l r) ∙ ap sheet_text (sym f.is) ∙ m),
 )
   where
-    to : ((n l : ℕ) → ¬ RefusedText t n l) → (rd : Reading) → sheet_text t ≡ rd → PrintedFrom t
+    to : ((n : Refusal) (l : ℕ) → ¬ RefusedText t n l) → (rd : Reading) → sheet_text t ≡ rd → PrintedFrom t
     to h (refusal n l) e = absurd (h n l (refused_means t n l e))
     to h (model z p) e = model_printed t e

@@ -4,8 +4,7 @@ use Rattle.model.specs.Limits.{SHEET_BYTES}
 use Rattle.model.specs.Denoted.{policy_of}
 use Rattle.model.specs.declared.Model.{Model}
 use Rattle.text.specs.Lines.{lines}
-use Rattle.views.specs.declared.Judgement.{Judgement}
-use Rattle.views.specs.declared.Judgement.TheVariants.{Accepted}
+use Rattle.views.specs.Judgement.{Judgement, accepted}
 use Rattle.zarpalume.specs.Words as words
 use Rattle.demands.specs.Calls.{Bytes, Table}
 use Rattle.demands.specs.Refusals.{ThreeTables, GoodModel}
@@ -18,7 +17,7 @@ pub record Redrawn (m m' : Model) : Type 0 where
 
 pub record NeverHurts (judge : Model → Table → Table → Table → Judgement) : Type 0 where
   pub judged : (m m' : Model) (next outputs views : Table) → ThreeTables next outputs views → GoodModel m next → GoodModel m' next → Redrawn m m' →
-      judge m next outputs views ≡ Accepted → judge m' next outputs views ≡ Accepted
+      judge m next outputs views ≡ accepted → judge m' next outputs views ≡ accepted
 
 -- a sheet with arrow lines added to its own
 abbrev pub with_arrows : Paper → List Drawn → Paper

@@ -9,11 +9,12 @@ use Rattle.model.specs.declared.Sizes.{Sizes}
 use Rattle.model.specs.declared.Machine.{Machine}
 use Rattle.model.specs.declared.Model.{Model}
 use Rattle.sheet.specs.Reading.{Parts, model, sheet_text, given}
-use Rattle.sheet.specs.Label.{label_place, placed, label_of}
+use Rattle.std.specs.Prelude.{Ok}
+use Rattle.sheet.specs.Label.{label_place, label_of}
 use Rattle.purge.specs.Purged.{kept_of, written}
 use Rattle.model.specs.declared.Kind.{Kind}
 use Rattle.reach.specs.Explored.{moving}
-use Rattle.reach.specs.declared.Outcome.TheVariants.{Found}
+use Rattle.reach.specs.Set.{of_flags}
 use Rattle.zarpalume.specs.Verdict as verdicts
 use Rattle.zarpalume.specs.Verdict.{call}
 use Rattle.demands.specs.Calls.{Bytes, Table, Calls}
@@ -24,12 +25,12 @@ pub record Answers (calls : Calls) : Type 0 where
   pub read : (t : Bytes) (next outputs views : Table) (z : Sizes) (p : Parts) → ThreeTables next outputs views →
       sheet_text t ≡ model z p → calls.read t next outputs views ≡ given (model z p)
   pub label : (t : Bytes) (position : ℕ) (z : Sizes) (p : Parts) →
-      sheet_text t ≡ model z p → position < z.boxes → calls.label t position ≡ label_of t (placed (label_place t position))
+      sheet_text t ≡ model z p → position < z.boxes → calls.label t position ≡ label_of t (Ok (label_place t position))
   pub purged : (m : Model) (kind : Kind) (position : ℕ) (run kept : Bytes) →
       length kept ≡ length run → GoodMachine m.machine × GoodDrawing m → Question m position run →
       calls.purged m kind position run kept ≡ written (kept_of m kind position run) (length run)
   pub reached : (m : Machine) (next : Table) → length next ≡ NEXT_ENTRIES → GoodTable m next →
-      calls.reached m next ≡ (Found, tabulate STATES λ s. both (ltb s m.sizes.states) (noninterference.reached (moving m next) s))
+      calls.reached m next ≡ Ok (of_flags (tabulate STATES λ s. both (ltb s m.sizes.states) (noninterference.reached (moving m next) s)))
   pub verdict : (t buffer : Bytes) → length buffer ≡ VERDICT_BYTES →
       calls.verdict t buffer ≡ call (length (verdicts.verdict t)) (verdicts.verdict t ++ replicate (VERDICT_BYTES - length (verdicts.verdict t)) 0)
 

@@ -4,7 +4,7 @@ use Rattle.sheet.specs.Label.{label}
 use Rattle.views.specs.Judgement.{judgement_of}
 use Rattle.needs.specs.Answered.{needed_of, list_of}
 use Rattle.purge.specs.Purged.{purged_of}
-use Rattle.reach.specs.Answered.{outcome_of, flags_of}
+use Rattle.reach.specs.Answered.{answer_of}
 use Rattle.zarpalume.specs.Verdict.{call_of}
 use Rattle.demands.specs.Calls.{Calls}
 
@@ -15,6 +15,6 @@ ours = record {
   judge = judgement_of;
   needed = λ m next outputs list. (needed_of m next outputs list, list_of m next outputs list);
   purged = purged_of;
-  reached = λ m next. (outcome_of m next, flags_of m next);
+  reached = answer_of;
   verdict = call_of;
 }

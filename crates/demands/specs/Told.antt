@@ -1,4 +1,5 @@
 -- What a verdict tells, apart from its bytes. Boxes are named by their ids.
+use Rattle.model.specs.Refusal.{number_of}
 use Rattle.std.specs.Prelude.{List, [], ◌∷◌, ℕ, get_or}
 use Rattle.std.proofs.Math.Option.{Option, none, some}
 use Rattle.laws.specs.Range.{count, tabulate}
@@ -43,6 +44,6 @@ told_of m next outputs views =
     (arrows_by m.ids (needed_list M)) (tabulate M.boxes λ u. (id_at m.ids u, depth_of M u)) (count M.states (reached M))
 
 abbrev pub told : Reading → Told
-told (refusal number line) = refused number line
+told (refusal e line) = refused (number_of e) line
 told (model z p) =
     told_of (model_of z p) p.drawn.steps.next p.drawn.steps.outputs p.drawn.views

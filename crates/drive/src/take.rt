@@ -1,115 +1,110 @@
-// Takes the parts of a request one after the other. `at` is the place of the next; it is LOST once a part is cut short or too long.
-ghost use Rattle.std.specs.Prelude.{◌≤◌, length};
+// Takes the parts of a request one after the other: none once a part is cut short or too long.
+ghost use Rattle.std.specs.Prelude.{◌≤◌, length, IfSome};
 
-use crate::LOST;
-use model::{Machine, Model, Sizes};
+use model::{ACTIONS, BOXES, Kind, Machine, Model, Sizes};
 
-pub(crate) fn n1(request: &[u8], at: &mut usize) -> u8 {
-    let here = *at;
-    if here < request.len() {
-        *at = here + 1;
-        return request[here];
+// The bytes that are not taken yet.
+#[derive(Clone, Copy)]
+pub(crate) struct Request<'r> {
+    pub(crate) rest: &'r [u8],
+}
+
+impl<'r> Request<'r> {
+    // The next bytes, so many.
+    fn part(&mut self, length: usize) -> Option<&'r [u8]> {
+        let (part, rest) = self.rest.split_at_checked(length)?;
+        self.rest = rest;
+        Some(part)
     }
-    *at = LOST;
-    0
-}
 
-pub(crate) fn n2(request: &[u8], at: &mut usize) -> u16 {
-    let low = n1(request, at) as u16;
-    let high = n1(request, at) as u16;
-    low | high << 8
-}
-
-pub(crate) fn n4(request: &[u8], at: &mut usize) -> u32 {
-    let low = n2(request, at) as u32;
-    let high = n2(request, at) as u32;
-    low | high << 16
-}
-
-pub(crate) fn n8(request: &[u8], at: &mut usize) -> usize {
-    let low = n4(request, at) as usize;
-    let high = n4(request, at) as usize;
-    low | high << 32
-}
-
-// How many entries there are, or how much is to be lent.
-pub(crate) fn count(request: &[u8], at: &mut usize, most: usize) -> usize
-    ensures { result ≤ most }
-{
-    let said = n4(request, at) as usize;
-    if said <= most {
-        return said;
+    // A number of so many bytes, the lowest first.
+    fn number(&mut self, width: usize) -> Option<usize> {
+        let mut number = 0usize;
+        for &byte in self.part(width)?.iter().rev() {
+            number = number << 8 | usize::from(byte);
+        }
+        Some(number)
     }
-    *at = LOST;
-    0
-}
 
-pub(crate) fn bytes<'r, 'a>(request: &'r [u8], at: &'a mut usize) -> &'r [u8] {
-    let said = n4(request, at) as usize;
-    let start = *at;
-    if start <= request.len() {
-        if said <= request.len() - start {
-            let end = start + said;
-            *at = end;
-            return &request[start..end];
+    pub(crate) fn n1(&mut self) -> Option<u8> {
+        let (&first, rest) = self.rest.split_first()?;
+        self.rest = rest;
+        Some(first)
+    }
+
+    fn n2(&mut self) -> Option<u16> {
+        Some(u16::from_le_bytes([self.n1()?, self.n1()?]))
+    }
+
+    fn n4(&mut self) -> Option<u32> {
+        Some(u32::from(self.n2()?) | u32::from(self.n2()?) << 16)
+    }
+
+    pub(crate) fn n8(&mut self) -> Option<usize> {
+        Some(self.n4()? as usize | (self.n4()? as usize) << 32)
+    }
+
+    // How many entries there are, or how much is to be lent.
+    pub(crate) fn count(&mut self, most: usize) -> Option<usize>
+        ensures { IfSome result (λ n. n ≤ most) }
+    {
+        Some(self.n4()? as usize).filter(|said| *said <= most)
+    }
+
+    pub(crate) fn bytes(&mut self) -> Option<&'r [u8]> {
+        let length = self.n4()? as usize;
+        let (part, rest) = self.rest.split_at_checked(length)?;
+        self.rest = rest;
+        Some(part)
+    }
+
+    // A table, into the front of the entries that there is room for.
+    pub(crate) fn table(&mut self, entries: &mut [u16]) -> Option<usize>
+        ensures { IfSome result (λ n. n ≤ length entries.new) }
+    {
+        let said = self.count(entries.len())?;
+        for entry in &mut entries[..said] {
+            *entry = self.n2()?;
+        }
+        Some(said)
+    }
+
+    pub(crate) fn machine(&mut self) -> Option<Machine> {
+        let sizes = Sizes::new(self.n8()?, self.n8()?, self.n8()?, self.n8()?);
+        let mut owners = [0u8; ACTIONS];
+        for owner in &mut owners {
+            *owner = self.n1()?;
+        }
+        Some(Machine::new(sizes, owners))
+    }
+
+    // A flag for each arrow, source * BOXES + target.
+    fn arrows(&mut self) -> Option<[u32; BOXES]> {
+        let mut rows = [0u32; BOXES];
+        for row in &mut rows {
+            for target in 0..BOXES {
+                if self.n1()? != 0 {
+                    *row |= 1u32 << target;
+                }
+            }
+        }
+        Some(rows)
+    }
+
+    pub(crate) fn model(&mut self) -> Option<Model> {
+        let machine = self.machine()?;
+        let mut ids = [0u32; BOXES];
+        for id in &mut ids {
+            *id = self.n4()?;
+        }
+        Some(Model::new(machine, ids, self.arrows()?))
+    }
+
+    pub(crate) fn kind(&mut self) -> Option<Kind> {
+        match self.n1()? {
+            0 => Some(Kind::Plain),
+            1 => Some(Kind::Intransitive),
+            _ => None,
         }
     }
-    *at = LOST;
-    &request[0..0]
-}
-
-// A table, into the front of the entries that there is room for.
-pub(crate) fn table(request: &[u8], at: &mut usize, entries: &mut [u16]) -> usize
-    ensures { result ≤ length entries.new }
-{
-    let said = count(request, at, entries.len());
-    'entries: for i in 0..said {
-        entries[i] = n2(request, at);
-    }
-    said
-}
-
-fn owners(request: &[u8], at: &mut usize) -> [u8; model::ACTIONS] {
-    let mut list = [0u8; model::ACTIONS];
-    'actions: for a in 0..model::ACTIONS {
-        list[a] = n1(request, at);
-    }
-    list
-}
-
-fn ids(request: &[u8], at: &mut usize) -> [u32; model::BOXES] {
-    let mut list = [0u32; model::BOXES];
-    'boxes: for u in 0..model::BOXES {
-        list[u] = n4(request, at);
-    }
-    list
-}
-
-// A flag for each arrow, source * BOXES + target.
-fn arrows(request: &[u8], at: &mut usize) -> [u32; model::BOXES] {
-    let mut rows = [0u32; model::BOXES];
-    'arrows: for i in 0..model::ARROWS {
-        let source = i / model::BOXES;
-        let target = i % model::BOXES;
-        if n1(request, at) != 0 {
-            rows[source] = rows[source] | 1u32 << target;
-        }
-    }
-    rows
-}
-
-pub(crate) fn whole_machine(request: &[u8], at: &mut usize) -> Machine {
-    let states = n8(request, at);
-    let actions = n8(request, at);
-    let boxes = n8(request, at);
-    let start = n8(request, at);
-    let owners = owners(request, at);
-    Machine::new(Sizes::new(states, actions, boxes, start), owners)
-}
-
-pub(crate) fn whole_model(request: &[u8], at: &mut usize) -> Model {
-    let machine = whole_machine(request, at);
-    let ids = ids(request, at);
-    let arrows = arrows(request, at);
-    Model::new(machine, ids, arrows)
 }

@@ -14,11 +14,13 @@ use Rattle.edits.specs.Records.{blank, at, boxes, place}
 use Rattle.edits.specs.History.{History, fresh, entry, ending_at, ending, deleted_by, newest, keep, push}
 use Rattle.edits.specs.Allowed.{made, good_entry, good_at, allowed}
 use Rattle.edits.specs.Moved.{with_arrows, skip, column_of, without_box, with_box, unskip}
-use Rattle.edits.specs.Plan.{Add, Delete, Draw, Erase, deletion, plan}
+use Rattle.edits.specs.Plan.{deletion, plan}
 use Rattle.edits.specs.Done.{new_box, done}
-use Rattle.edits.specs.Edited.{Make, Undo, Drop, Unknown, Edited, accepted, edited, planned}
+use Rattle.edits.specs.Edited.{Edited, accepted, edited, planned}
 use Rattle.edits.specs.Demand.{Answers, Tidy, between, Demand}
 use Rattle.edits.specs.declared.BoxRecord.{BoxRecord}
+use Rattle.edits.specs.declared.Change.TheVariants.{Add, Delete, Draw, Erase}
+use Rattle.edits.specs.declared.Request.TheVariants.{Make, Undo, Drop, Unknown}
 use Rattle.edits.specs.declared.Entry.{Entry}
 use Rattle.edits.proofs.Found.{place_live}
 use Rattle.edits.proofs.Fine.{Listed, listed_live, listed_place}
@@ -49,7 +51,7 @@ ours_keeps : (l : List BoxRecord) (h : History) (id : ℕ) → (edited l h (Make
     → place l a < BOXES → place l b < BOXES → between (edited l h (Make (Delete id))).list a b ≡ between l a b
 unfolding done choose
 ours_keeps l h id z a b na nb pa pb =
-    let d = delete_plan l h id (took l h (Delete id) z).plans in
+    let d = delete_plan l h id _ (took l h (Delete id) z).plans in
     let s : Listed (boxes l) l = (found l h (Delete id) z).list in
     let p : place l id < boxes l = listed_live s (place l id) (place_live l id d.1).0 in
     let is : (edited l h (Make (Delete id))).list ≡ without_box l (place l id) = ap (λ (x : Edited). x.list) (took l h (Delete id) z).is ∙ rw d.0 in

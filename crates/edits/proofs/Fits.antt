@@ -18,13 +18,15 @@ use Rattle.edits.specs.Records.{blank, at, boxes, place}
 use Rattle.edits.specs.History.{History, ADD, DELETE, DRAW, ERASE, newest, rest, deleted}
 use Rattle.edits.specs.Allowed.{made_arrow, made, good_entry, allowed}
 use Rattle.edits.specs.Moved.{with_arrows, column_of, without_box, with_box}
-use Rattle.edits.specs.Plan.{Change, Add, Delete, Draw, Erase, yes, added, deletion, arrow, plan_arrow, plan_change, plan}
+use Rattle.edits.specs.Plan.{Plan, added, deletion, arrow, plan_arrow, plan_change, plan}
 use Rattle.edits.specs.Done.{new_box, done, undone}
 use Rattle.edits.specs.Fits.{fits_add, fits_delete, fits_arrow, fits}
 use Rattle.edits.specs.Gives.{Gives}
 use Rattle.edits.specs.declared.BoxRecord.{BoxRecord}
 use Rattle.edits.specs.declared.Entry.{Entry}
-use Rattle.edits.specs.declared.Plan.{Plan}
+use Rattle.edits.specs.declared.Change.{Change}
+use Rattle.edits.specs.declared.Change.TheVariants.{Add, Delete, Draw, Erase}
+use Rattle.std.specs.Prelude.{Ok}
 use Rattle.edits.proofs.Past.{deleted_fewer, deleted_at}
 use Rattle.edits.proofs.Fine.{Listed, Sound, sound, sound_allowed, listed_boxes, listed_live, listed_place, listed_none}
 use Rattle.edits.proofs.Moved.{column_bit}
@@ -144,7 +146,7 @@ module _ (l : List BoxRecord) (h : History) (begun : h.count ≡ 0 → ⊥) wher
 
     -- ---- drawn or erased
     plan_arrow_lem : (m : List BoxRecord) (kind b i j : ℕ) → Listed n m → i < n → j < n → (i ≡ j → ⊥) → bit j (at m i).arrows ≡ b
-        → plan_arrow m kind b (place m (at m i).id) (place m (at m j).id) ≡ yes (arrow kind i j)
+        → plan_arrow m kind b (place m (at m i).id) (place m (at m j).id) ≡ Ok (arrow kind i j)
     unfolding choose
     plan_arrow_lem m kind b i j d bi bj ne z =
         rw (listed_place d i bi, listed_place d j bj, ne_eqb i BOXES (λ f. omega (arith, d.most)), ne_eqb j BOXES (λ f. omega (arith, d.most)), ne_eqb i j ne, eq-eqb (bit j (at m i).arrows) b z)
@@ -213,9 +215,9 @@ module _ (l : List BoxRecord) (h : History) (begun : h.count ≡ 0 → ⊥) wher
       full_place : place full e.id ≡ e.at
       full_place = ap (place full) (ap (λ (x : BoxRecord). x.id) (sym at_full)) ∙ listed_place listed_full e.at (omega arith)
 
-      plan_delete_lem : plan_change full (rest h) (Delete e.id) ≡ yes e
+      plan_delete_lem : plan_change full (rest h) (Delete e.id) ≡ Ok e
       unfolding choose
-      plan_delete_lem = rw (full_place, ne_eqb e.at BOXES (λ f. omega (arith, d.at))) (ap yes deletion_is)
+      plan_delete_lem = rw (full_place, ne_eqb e.at BOXES (λ f. omega (arith, d.at))) (ap Ok deletion_is)
 
       delete_gives : Gives full (rest h) e l
       unfolding done choose
@@ -223,7 +225,7 @@ module _ (l : List BoxRecord) (h : History) (begun : h.count ≡ 0 → ⊥) wher
         long = listed_full.long;
         good = allowed_full;
         change = Delete e.id;
-        plans = plan_is full (Delete e.id) (yes e) plan_delete_lem;
+        plans = plan_is full (Delete e.id) (Ok e) plan_delete_lem;
         gives = rw k (without_with s.list e.at e.into box room here refl out into d.out d.into);
       }
 
@@ -242,7 +244,7 @@ module _ (l : List BoxRecord) (h : History) (begun : h.count ≡ 0 → ⊥) wher
     no_place = listed_none listed_short e.id (λ j t q.
         let same : j ≡ n = s.list.apart j n (omega arith) (omega arith) (sym (ap (λ (x : BoxRecord). x.id) (at_short j t)) ∙ q ∙ sym id) in omega arith)
 
-    plan_add : plan_change short (rest h) (Add e.id) ≡ yes (added e.id)
+    plan_add : plan_change short (rest h) (Add e.id) ≡ Ok (added e.id)
     unfolding choose
     plan_add =
         rw (le-ltb (place short e.id) BOXES (omega (arith, no_place)), rw id at (kept_rest s n (omega arith)), listed_boxes listed_short, ne_eqb n BOXES (λ f. omega (arith, s.list.most)))
@@ -256,7 +258,7 @@ module _ (l : List BoxRecord) (h : History) (begun : h.count ≡ 0 → ⊥) wher
       long = listed_short.long;
       good = rest_sound s listed_short (λ j t. rw (at_short j t) (kept_rest s j (omega arith)));
       change = Add e.id;
-      plans = plan_is s short (Add e.id) (yes e) (plan_add ∙ ap yes (sym (added_is e k (made_newest s))));
+      plans = plan_is s short (Add e.id) (Ok e) (plan_add ∙ ap Ok (sym (added_is e k (made_newest s))));
       gives = rw (k, listed_boxes listed_short, last_is) (set-set l n blank (at l n) ∙ set-get_or l n blank);
     }
 
@@ -313,7 +315,7 @@ fits_gives l h long ok begun f =
 -- and an entry that was made of a list fits the one that it gives, which leads back to that list
 pub gives_gave : {m l : List BoxRecord} {h : History} {e : Entry} → Gives m h e l → Gave m h e
 gives_gave {m} {l} {h} {e} g =
-    subst (Gave m h) (ap (λ (p : Plan). p.entry) g.plans) (plan_gave m h g.change (ap (λ (p : Plan). p.number) g.plans))
+    plan_gave m h g.change e g.plans
 
 pub gives_fits : {m l : List BoxRecord} {h : History} {e : Entry} → Gives m h e l → fits e l ≡ true
 gives_fits {m} {l} {h} {e} g = ap (fits e) (sym g.gives) ∙ fits_done (sound m h g.long g.good).list (gives_gave g)

@@ -1,6 +1,6 @@
 -- The entries that are made of a list, and that undoing one gives the list before.
 -- Assumes nothing.
-use mathlib.Core.Path.{◌≡◌, refl, sym, ap, ◌∙◌}
+use mathlib.Core.Path.{◌≡◌, refl, sym, ap, subst, ◌∙◌}
 use mathlib.Core.Bool.{false}
 use mathlib.Core.List.{List}
 use Prim.Native.Nat.{ℕ, ◌+◌, ◌-◌, ◌<◌, ◌≤◌, ◌^◌}
@@ -18,11 +18,13 @@ use Rattle.model.specs.Limits.{BOXES, EDITS}
 use Rattle.edits.specs.Records.{blank, at, boxes, place}
 use Rattle.edits.specs.History.{History, DRAW, ERASE, deleted}
 use Rattle.edits.specs.Moved.{with_arrows}
-use Rattle.edits.specs.Plan.{Change, Add, Delete, Draw, Erase, added, deletion, arrow, plan_arrow, plan_change, plan}
+use Rattle.edits.specs.Plan.{Plan, added, deletion, arrow, plan_arrow, plan_change, plan}
 use Rattle.edits.specs.Done.{new_box, done, undone}
 use Rattle.edits.specs.declared.BoxRecord.{BoxRecord}
 use Rattle.edits.specs.declared.Entry.{Entry}
-use Rattle.edits.specs.declared.Plan.{Plan}
+use Rattle.edits.specs.declared.Change.{Change}
+use Rattle.edits.specs.declared.Change.TheVariants.{Add, Delete, Draw, Erase}
+use Rattle.std.specs.Prelude.{Ok, Err}
 use Rattle.edits.proofs.Found.{boxes_most, boxes_are, place_live, known}
 use Rattle.edits.proofs.Moved.{left_long, with_without}
 use Rattle.edits.proofs.Fine.{Listed}
@@ -33,42 +35,52 @@ pub data Gave (l : List BoxRecord) (h : History) : Entry → Type 0 where
   drawing : (i j : ℕ) → i < BOXES → j < BOXES → (at l i).live ≡ 1 → (at l j).live ≡ 1 → (i ≡ j → ⊥) → bit j (at l i).arrows ≡ 0 → Gave l h (arrow DRAW i j)
   erasing : (i j : ℕ) → i < BOXES → j < BOXES → (at l i).live ≡ 1 → (at l j).live ≡ 1 → (i ≡ j → ⊥) → bit j (at l i).arrows ≡ 1 → Gave l h (arrow ERASE i j)
 
+-- what is known of a plan that is no refusal
 abbrev Result : List BoxRecord → History → Plan → Type 0
-Result l h p = p.number ≡ 0 → Gave l h p.entry
+Result l h (Ok e) = Gave l h e
+Result l h (Err _) = Unit {0}
 
 arrow_gave : (l : List BoxRecord) (h : History) (kind b : ℕ) (x y : ℕ)
     → ((i j : ℕ) → i < BOXES → j < BOXES → (at l i).live ≡ 1 → (at l j).live ≡ 1 → (i ≡ j → ⊥) → bit j (at l i).arrows ≡ b → Gave l h (arrow kind i j))
     → Result l h (plan_arrow l kind b (place l x) (place l y))
 arrow_gave l h kind b x y g =
-    chosen (Result l h) (eqb (place l x) BOXES) _ _ (λ _ z. absurd (omega arith)) (λ ex.
-    chosen (Result l h) (eqb (place l y) BOXES) _ _ (λ _ z. absurd (omega arith)) (λ ey.
-    chosen (Result l h) (eqb (place l x) (place l y)) _ _ (λ _ z. absurd (omega arith)) (λ ne.
+    chosen (Result l h) (eqb (place l x) BOXES) _ _ (λ _. tt) (λ ex.
+    chosen (Result l h) (eqb (place l y) BOXES) _ _ (λ _. tt) (λ ey.
+    chosen (Result l h) (eqb (place l x) (place l y)) _ _ (λ _. tt) (λ ne.
     chosen (Result l h) (eqb (bit (place l y) (at l (place l x)).arrows) b) _ _
-    (λ eb _. g (place l x) (place l y) (known l x ex) (known l y ey) (place_live l x (known l x ex)).0 (place_live l y (known l y ey)).0 (eqb-false _ _ ne) (eqb-true _ _ eb))
-    (λ _ z. absurd (omega arith)))))
+    (λ eb. g (place l x) (place l y) (known l x ex) (known l y ey) (place_live l x (known l x ex)).0 (place_live l y (known l y ey)).0 (eqb-false _ _ ne) (eqb-true _ _ eb))
+    (λ _. tt))))
 
 change_gave : (l : List BoxRecord) (h : History) (q : Change) → Result l h (plan_change l h q)
 change_gave l h (Add i) =
-    chosen (Result l h) (ltb (place l i) BOXES) _ _ (λ _ z. absurd (omega arith)) (λ a.
-    chosen (Result l h) (deleted h i) _ _ (λ _ z. absurd (omega arith)) (λ b.
-    chosen (Result l h) (eqb (boxes l) BOXES) _ _ (λ _ z. absurd (omega arith)) (λ d _.
+    chosen (Result l h) (ltb (place l i) BOXES) _ _ (λ _. tt) (λ a.
+    chosen (Result l h) (deleted h i) _ _ (λ _. tt) (λ b.
+    chosen (Result l h) (eqb (boxes l) BOXES) _ _ (λ _. tt) (λ d.
     let le : BOXES ≤ place l i = ltb-false _ _ a in
     let ne : boxes l ≡ BOXES → ⊥ = eqb-false _ _ d in
     adding i (λ s. omega arith) b (omega (arith, boxes_most l)))))
 change_gave l h (Delete i) =
-    chosen (Result l h) (eqb (place l i) BOXES) _ _ (λ _ z. absurd (omega arith)) (λ e _. deleting (place l i) (known l i e) (place_live l i (known l i e)).0)
+    chosen (Result l h) (eqb (place l i) BOXES) _ _ (λ _. tt) (λ e. deleting (place l i) (known l i e) (place_live l i (known l i e)).0)
 change_gave l h (Draw a b) = arrow_gave l h DRAW 0 a b drawing
 change_gave l h (Erase a b) = arrow_gave l h ERASE 1 a b erasing
 
 -- a plan that is no refusal is one of the four
-pub plan_gave : (l : List BoxRecord) (h : History) (q : Change) → (plan l h q).number ≡ 0 → Gave l h (plan l h q).entry
+pub plan_gave : (l : List BoxRecord) (h : History) (q : Change) (e : Entry) → plan l h q ≡ Ok e → Gave l h e
 unfolding plan
-plan_gave l h q = chosen (Result l h) (eqb h.count EDITS) _ _ (λ _ z. absurd (omega arith)) (λ _. change_gave l h q)
+plan_gave l h q e z = subst (Result l h) z (chosen (Result l h) (eqb h.count EDITS) _ _ (λ _. tt) (λ _. change_gave l h q))
 
 -- and there is room for it
-pub plan_room : (l : List BoxRecord) (h : History) (q : Change) → (plan l h q).number ≡ 0 → h.count ≡ EDITS → ⊥
+pub plan_room : (l : List BoxRecord) (h : History) (q : Change) (e : Entry) → plan l h q ≡ Ok e → h.count ≡ EDITS → ⊥
 unfolding plan
-plan_room l h q = chosen (λ (p : Plan). p.number ≡ 0 → h.count ≡ EDITS → ⊥) (eqb h.count EDITS) _ _ (λ _ z. absurd (omega arith)) (λ e _. eqb-false _ _ e)
+plan_room l h q e z = subst Room z (chosen Room (eqb h.count EDITS) _ _ (λ _. tt) (λ n. of_any (plan_change l h q) (eqb-false _ _ n)))
+  where
+    Room : Plan → Type 0
+    Room (Ok _) = h.count ≡ EDITS → ⊥
+    Room (Err _) = Unit {0}
+
+    of_any : (p : Plan) → (h.count ≡ EDITS → ⊥) → Room p
+    of_any (Ok _) n = n
+    of_any (Err _) n = tt
 
 -- ---- done and undone
 pub done_long : (l : List BoxRecord) (h : History) (e : Entry) → length l ≡ BOXES → Gave l h e → length (done e l) ≡ BOXES

@@ -1,4 +1,4 @@
-pub mod Asked
+pub mod Chains
 pub mod Found
 pub mod Words
 pub mod Past

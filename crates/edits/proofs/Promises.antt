@@ -20,15 +20,22 @@ use Rattle.edits.specs.Records.{blank, at, boxes, place}
 use Rattle.edits.specs.History.{History, past, FIELDS, none, entry, ending, push, keep, newest, rest, fresh, deleted, deleted_by}
 use Rattle.edits.specs.Allowed.{good_at, allowed}
 use Rattle.edits.specs.Moved.{without_box}
-use Rattle.edits.specs.Plan.{Change, Add, Delete, yes, added, deletion, plan}
+use Rattle.edits.specs.Plan.{Plan, added, deletion, plan}
 use Rattle.edits.specs.Done.{new_box, done, undone}
 use Rattle.edits.specs.Fits.{fits}
 use Rattle.edits.specs.Gives.{Gives}
-use Rattle.edits.specs.Edited.{Request, Make, Undo, Drop, Unknown, Edited, accepted, planned, undo, answered, fitting, edited}
+use Rattle.edits.specs.Edited.{Edited, accepted, planned, undo, answered, fitting, edited}
 use Rattle.edits.specs.Promises.{Built, nothing, more, Changed, begun, next, after, UndoExact, UndoAll, UndoAny, Unique, OnlyOne, FitsExactly, UndoFinds, UndoRefuses, NotAgain, RoomAgain, RefusedSame, DropKeeps, StaysAllowed}
 use Rattle.edits.specs.declared.BoxRecord.{BoxRecord}
 use Rattle.edits.specs.declared.Entry.{Entry}
-use Rattle.edits.specs.declared.Plan.{Plan}
+use Rattle.edits.specs.declared.Change.{Change}
+use Rattle.edits.specs.declared.Change.TheVariants.{Add, Delete}
+use Rattle.edits.specs.declared.Request.{Request}
+use Rattle.edits.specs.declared.Request.TheVariants.{Make, Undo, Drop, Unknown}
+use Rattle.std.specs.Prelude.{Ok, Err}
+use Rattle.model.specs.Refusal.{number_of}
+use Rattle.model.specs.declared.refusal.Refusal.{Refusal}
+use Rattle.model.specs.declared.refusal.Refusal.TheVariants.{Text, Record, Fields, Number, Size, Order, SameId, UnknownId, Label, Length, Ended, Rules, Range, UsedId, NoRoom, NothingToUndo, LongHistory, Arrow}
 use Rattle.edits.proofs.Words.{entry_before, ending_long, words_behind, words_kept, kept_same, ending_twice}
 use Rattle.edits.proofs.Past.{push_new, entry_same, deleted_same}
 use Rattle.edits.proofs.Fine.{Sound, sound, sound_allowed, listed_boxes, listed_live}
@@ -38,13 +45,38 @@ use Rattle.edits.proofs.Listed.{listed_without}
 use Rattle.edits.proofs.Stays.{stays}
 use Rattle.edits.proofs.Fits.{fits_done, fits_gives, gives_fits, gives_undone}
 
+-- a refusal's number is not 0
+number_some : (r : Refusal) → number_of r ≡ 0 → ⊥
+number_some Text e = omega arith
+number_some Record e = omega arith
+number_some Fields e = omega arith
+number_some Number e = omega arith
+number_some Size e = omega arith
+number_some Order e = omega arith
+number_some SameId e = omega arith
+number_some UnknownId e = omega arith
+number_some Label e = omega arith
+number_some Length e = omega arith
+number_some Ended e = omega arith
+number_some Rules e = omega arith
+number_some Range e = omega arith
+number_some UsedId e = omega arith
+number_some NoRoom e = omega arith
+number_some NothingToUndo e = omega arith
+number_some LongHistory e = omega arith
+number_some Arrow e = omega arith
+
 -- ---- a refused edit changes nothing
 abbrev Unless : List BoxRecord → History → Edited → Type 0
 Unless l h x = (x.number ≡ 0 → ⊥) → (x.list ≡ l) × (x.history ≡ h)
 
 answered_unless : (l : List BoxRecord) (h : History) (q : Request) → Unless l h (answered l h q)
 unfolding planned undo
-answered_unless l h (Make c) = chosen (Unless l h) (eqb (plan l h c).number 0) _ _ (λ _ n. absurd (n refl)) (λ _ _. (refl, refl))
+answered_unless l h (Make c) = go (plan l h c)
+  where
+    go : (p : Plan) → Unless l h (planned l h p)
+    go (Ok e) n = absurd (n refl)
+    go (Err r) _ = (refl, refl)
 answered_unless l h Undo =
     chosen (Unless l h) (eqb h.count 0) _ _ (λ _ _. (refl, refl)) (λ _.
     chosen (Unless l h) (fits (newest h) l) _ _ (λ _ n. absurd (n refl)) (λ _ _. (refl, refl)))
@@ -87,14 +119,17 @@ fits_long l h p q = both_of (eq-eqb _ _ p) (eq-eqb _ _ q)
 
 -- a change
 pub record Taken (l : List BoxRecord) (h : History) (c : Change) (x : Edited) : Type 0 where
-  pub plans : (plan l h c).number ≡ 0
-  pub is : x ≡ accepted (done (plan l h c).entry l) (push h (plan l h c).entry)
+  pub entry : Entry
+  pub plans : plan l h c ≡ Ok entry
+  pub is : x ≡ accepted (done entry l) (push h entry)
 
 taken_of : (l : List BoxRecord) (h : History) (c : Change) → (planned l h (plan l h c)).number ≡ 0 → Taken l h c (planned l h (plan l h c))
 unfolding planned
-taken_of l h c =
-    chosen (λ (x : Edited). x.number ≡ 0 → Taken l h c x) (eqb (plan l h c).number 0) _ _
-    (λ e _. record { plans = eqb-true _ _ e; is = refl }) (λ e z. absurd (eqb-false _ _ e z))
+taken_of l h c = go (plan l h c) refl
+  where
+    go : (p : Plan) → plan l h c ≡ p → (planned l h p).number ≡ 0 → Taken l h c (planned l h p)
+    go (Ok e) s z = record { entry = e; plans = s; is = refl }
+    go (Err r) s z = absurd (number_some r z)
 
 pub taken : (l : List BoxRecord) (h : History) (c : Change) → (edited l h (Make c)).number ≡ 0 → Taken l h c (edited l h (Make c))
 taken l h c z =
@@ -102,23 +137,23 @@ taken l h c z =
     subst (Taken l h c) (sym a.is) (taken_of l h c (sym (ap (λ (x : Edited). x.number) a.is) ∙ z))
 
 module _ (l : List BoxRecord) (h : History) (c : Change) (z : (edited l h (Make c)).number ≡ 0) where
-  abbrev e : Entry
-  e = (plan l h c).entry
-
   was : Answered l h (Make c) (edited l h (Make c))
   was = answers l h (Make c) z
 
   pub took : Taken l h c (edited l h (Make c))
   took = taken l h c z
 
+  abbrev e : Entry
+  e = took.entry
+
   gave : Gave l h e
-  gave = plan_gave l h c took.plans
+  gave = plan_gave l h c e took.plans
 
   pub found : Sound (boxes l) l h
   found = sound l h was.long was.good
 
   room : h.count < EDITS
-  room = let n : h.count ≡ EDITS → ⊥ = plan_room l h c took.plans in omega (arith, found.few)
+  room = let n : h.count ≡ EDITS → ⊥ = plan_room l h c e took.plans in omega (arith, found.few)
 
   made_allowed : allowed (done e l) (push h e) ≡ true
   made_allowed = sound_allowed (stays found room gave)
@@ -190,8 +225,8 @@ answered_good l h (Make c) long a z i = λ _.
     subst (λ (x : Edited). Good x.list x.history) (sym (took l h c z).is ∙ i)
     (made_fits l h c z, (made_allowed l h c z, words_pushed))
   where
-    words_pushed : Clean (push h (plan l h c).entry)
-    words_pushed j s = words_behind h.count (plan l h c).entry h.words j s
+    words_pushed : Clean (push h (took l h c z).entry)
+    words_pushed j s = words_behind h.count (took l h c z).entry h.words j s
 answered_good l h Undo long a z i = undo_good l h long a
 answered_good l h Drop long a z i = λ _. fresh_good l long (dropped_allowed l h long a)
 answered_good l h Unknown long a z i = λ n. absurd (omega arith)
@@ -259,31 +294,37 @@ drop_keeps l h f a = edited_is l h Drop f a
 pub not_again : NotAgain
 unfolding plan
 not_again l h i d z =
-    chosen (λ (p : Plan). p.number ≡ 0 → ⊥) (eqb h.count EDITS) _ _ (λ _ e. omega arith) (λ _.
-    chosen (λ (p : Plan). p.number ≡ 0 → ⊥) (ltb (place l i) BOXES) _ _ (λ _ e. omega arith) (λ _.
-    chosen (λ (p : Plan). p.number ≡ 0 → ⊥) (deleted h i) _ _ (λ _ e. omega arith) (λ n _. not_both d n)))
-    (taken l h (Add i) z).plans
+    subst No (taken l h (Add i) z).plans (
+    chosen No (eqb h.count EDITS) _ _ (λ _. tt) (λ _.
+    chosen No (ltb (place l i) BOXES) _ _ (λ _. tt) (λ _.
+    chosen No (deleted h i) _ _ (λ _. tt) (λ n. not_both d n))))
+  where
+    No : Plan → Type 0
+    No (Ok _) = ⊥
+    No (Err _) = Unit {0}
 
-pub delete_plan : (l : List BoxRecord) (h : History) (i : ℕ) → (plan l h (Delete i)).number ≡ 0 → ((plan l h (Delete i)).entry ≡ deletion l (place l i)) × (place l i < BOXES)
+pub delete_plan : (l : List BoxRecord) (h : History) (i : ℕ) (e : Entry) → plan l h (Delete i) ≡ Ok e → (e ≡ deletion l (place l i)) × (place l i < BOXES)
 unfolding plan
-delete_plan l h i =
-    chosen Named (eqb h.count EDITS) _ _ (λ _ z. absurd (omega arith)) (λ _.
-    chosen Named (eqb (place l i) BOXES) _ _ (λ _ z. absurd (omega arith)) (λ e _. (refl, known l i e)))
+delete_plan l h i e z =
+    subst Named z (
+    chosen Named (eqb h.count EDITS) _ _ (λ _. tt) (λ _.
+    chosen Named (eqb (place l i) BOXES) _ _ (λ _. tt) (λ n. (refl, known l i n))))
   where
     Named : Plan → Type 0
-    Named p = p.number ≡ 0 → (p.entry ≡ deletion l (place l i)) × (place l i < BOXES)
+    Named (Ok e) = (e ≡ deletion l (place l i)) × (place l i < BOXES)
+    Named (Err _) = Unit {0}
 
 -- a deletion leaves room
 delete_room : (l : List BoxRecord) (h : History) (i : ℕ) (z : (edited l h (Make (Delete i))).number ≡ 0) → boxes (edited l h (Make (Delete i))).list < BOXES
 unfolding done choose
 delete_room l h i z =
-    let d = delete_plan l h i (took l h (Delete i) z).plans in
+    let d = delete_plan l h i _ (took l h (Delete i) z).plans in
     let n : place l i < boxes l = listed_live (found l h (Delete i) z).list (place l i) (place_live l i d.1).0 in
     let is : (edited l h (Make (Delete i))).list ≡ without_box l (place l i) = ap (λ (x : Edited). x.list) (took l h (Delete i) z).is ∙ rw d.0 in
     let less : boxes (without_box l (place l i)) ≡ boxes l - 1 = listed_boxes (listed_without (found l h (Delete i) z).list (place l i) n) in
     rw is (omega (arith, boxes_most l))
 
-add_plan : (m : List BoxRecord) (g : History) (i : ℕ) → (g.count ≡ EDITS → ⊥) → place m i ≡ BOXES → deleted g i ≡ false → boxes m < BOXES → plan m g (Add i) ≡ yes (added i)
+add_plan : (m : List BoxRecord) (g : History) (i : ℕ) → (g.count ≡ EDITS → ⊥) → place m i ≡ BOXES → deleted g i ≡ false → boxes m < BOXES → plan m g (Add i) ≡ Ok (added i)
 unfolding plan choose
 add_plan m g i c p d b = rw (ne_eqb g.count EDITS c, le-ltb (place m i) BOXES (omega arith), d, ne_eqb (boxes m) BOXES (λ q. omega arith))
 

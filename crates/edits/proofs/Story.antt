@@ -12,13 +12,16 @@ use Rattle.edits.specs.Records.{blank, boxes, place}
 use Rattle.edits.specs.History.{entry, ending_at, ending, deleted_by, past}
 use Rattle.edits.specs.Allowed.{made, good_entry, good_at, allowed}
 use Rattle.edits.specs.Moved.{column_of, without_box, with_box}
-use Rattle.edits.specs.Plan.{Add, Delete, plan}
+use Rattle.edits.specs.Plan.{plan}
 use Rattle.edits.specs.Done.{done, undone}
 use Rattle.edits.specs.Fits.{fits}
-use Rattle.edits.specs.Edited.{Request, Make, Undo, Drop, Edited, accepted, planned, undo, edited}
+use Rattle.edits.specs.Edited.{Edited, accepted, planned, undo, edited}
 use Rattle.edits.specs.Promises.{after}
 use Rattle.edits.specs.Story.{arrows_of, touching, adds, draws, start, picture}
 use Rattle.edits.specs.declared.BoxRecord.{BoxRecord}
+use Rattle.edits.specs.declared.Change.TheVariants.{Add, Delete}
+use Rattle.edits.specs.declared.Request.{Request}
+use Rattle.edits.specs.declared.Request.TheVariants.{Make, Undo, Drop}
 
 abbrev box : ℕ → ℕ → BoxRecord
 box i x = record { id = i; live = 1; arrows = x }

@@ -5,14 +5,16 @@ use mathlib.Core.List.{List}
 use mathlib.Core.Logic.{⊎_elim}
 use Prim.Native.Nat.{ℕ, zero, suc, ◌+◌, ◌-◌, ◌*◌, ◌<◌, ◌≤◌}
 use native.Mathlib.Omega.{arith}
-use lib.ListN.{length, get_or, set, replicate, get_or-eq_default, get_or-replicate, length-replicate}
+use lib.ListN.{length, get_or, take, drop, length-append, length-drop, replicate, get_or-eq_default, get_or-replicate, length-replicate}
+use lib.Dec.{ltb}
+use mathlib.Core.List.{◌++◌}
+use borrow.Rule.Slice.PartMut.{put_mid, post_of}
+use Rattle.std.proofs.lemmas.List.{get_or-take, get_or-drop, get_or_append_left, get_or-append_right, length-take-le}
 use borrow.Author.Tests.{lt-ltb, le-ltb}
 use Rattle.laws.specs.Choice.{choose}
 use Rattle.laws.specs.Range.{tabulate}
-use Rattle.laws.specs.Filled.{Filled}
 use Rattle.laws.proofs.Range.{tabulate_same}
-use Rattle.laws.proofs.Filled.{filled_more}
-use Rattle.laws.proofs.Tables.{length_tabulate, tabulate_at, tabulated}
+use Rattle.laws.proofs.Tables.{zero_at, length_tabulate, tabulate_at, tabulated}
 use Rattle.model.specs.Limits.{EDITS, EDIT_WORDS}
 use Rattle.edits.specs.History.{FIELDS, fields, entry, none, ending_at, ending}
 use Rattle.edits.specs.declared.Entry.{Entry}
@@ -105,17 +107,52 @@ unfolding ending ending_at choose
 kept_none w = sym (tabulated 0 EDIT_WORDS (ending_at 0 none w) (replicate EDIT_WORDS 0) (length-replicate {A = ℕ} EDIT_WORDS 0)
     (λ j b. get_or-replicate EDIT_WORDS j 0 0 b ∙ rw (le-ltb j 0 (omega arith)) (sym (no_fields (j - 0)))))
 
--- ---- how a loop writes an entry: the words before it stand already
-pub ending_begun : (n : ℕ) (e : Entry) (w : List ℕ) → Filled (ending_at n e w) (n * FIELDS) w
-unfolding ending_at choose
-ending_begun n e w = record { entry = λ j s. rw (lt-ltb j (n * FIELDS) s) }
+-- ---- how the code writes
+-- a word after a part was written
+put_at : (a k : ℕ) (w v : List ℕ) (j : ℕ) → a + k ≤ length w → length v ≡ k
+    → get_or (put_mid a k w v) j 0 ≡ choose (ltb j a) (get_or w j 0) (choose (ltb j (a + k)) (get_or v (j - a) 0) (get_or w j 0))
+unfolding choose
+put_at a k w v j b l =
+    let long : length (take a w) ≡ a = length-take-le a w (omega arith) in
+    ⊎_elim
+    (λ (s : j < a). rw (lt-ltb j a s) (get_or_append_left (take a w) (v ++ post_of a k w) 0 j (omega arith) ∙ get_or-take a w j 0 s))
+    (λ (s : a ≤ j). rw (le-ltb j a s) (get_or-append_right (take a w) (v ++ post_of a k w) a j 0 long s ∙ ⊎_elim
+    (λ (t : j < a + k). rw (lt-ltb j (a + k) t) (get_or_append_left v (post_of a k w) 0 (j - a) (omega arith)))
+    (λ (t : a + k ≤ j).
+    let e : a + (k + (j - a - k)) ≡ j = omega arith in
+    rw (le-ltb j (a + k) t) (get_or-append_right v (post_of a k w) k (j - a) 0 l (omega arith) ∙ get_or-drop k (drop a w) (j - a - k) 0 ∙ get_or-drop a w (k + (j - a - k)) 0 ∙ ap (λ (m : ℕ). get_or w m 0) e))
+    (below_or j (a + k))))
+    (below_or j a)
 
-pub ending_next : (n : ℕ) (e : Entry) (w v : List ℕ) (start j x : ℕ) → start ≡ n * FIELDS → start ≤ j → j < length v → x ≡ get_or (fields e) (j - start) 0
-    → Filled (ending_at n e w) j v → Filled (ending_at n e w) (j + 1) (set v j x)
-unfolding ending_at choose
-ending_next n e w v start j x q s b d f =
-    filled_more (ending_at n e w) j v x f b (rw (le-ltb j (n * FIELDS) (omega arith)) (d ∙ ap (λ (m : ℕ). get_or (fields e) (j - m) 0) q))
+put_long : (a k : ℕ) (w v : List ℕ) → a + k ≤ length w → length v ≡ k → length (put_mid a k w v) ≡ length w
+put_long a k w v b l =
+    omega (arith, length-append (take a w) (v ++ post_of a k w), length-append v (post_of a k w), length-take-le a w (omega arith), length-drop k (drop a w), length-drop a w)
 
-pub ending_all : (n : ℕ) (e : Entry) (w v : List ℕ) (j : ℕ) → length v ≡ EDIT_WORDS → EDIT_WORDS ≤ j → Filled (ending_at n e w) j v → v ≡ ending n e w
-unfolding ending
-ending_all n e w v j l b f = tabulated 0 EDIT_WORDS (ending_at n e w) v l (λ i t. f.entry i (omega arith))
+-- blank words behind the first n entries
+pub cut_is : (n : ℕ) (w v : List ℕ) → n ≤ EDITS → length w ≡ EDIT_WORDS → v ≡ replicate (EDIT_WORDS - n * FIELDS) 0 → put_mid (n * FIELDS) (EDIT_WORDS - n * FIELDS) w v ≡ ending n none w
+unfolding ending ending_at choose
+cut_is n w v m l e =
+    let long : length v ≡ EDIT_WORDS - n * FIELDS = ap length e ∙ length-replicate {A = ℕ} (EDIT_WORDS - n * FIELDS) 0 in
+    tabulated 0 EDIT_WORDS (ending_at n none w) (put_mid (n * FIELDS) (EDIT_WORDS - n * FIELDS) w v) (put_long (n * FIELDS) (EDIT_WORDS - n * FIELDS) w v (omega arith) long ∙ l)
+    (λ j b. put_at (n * FIELDS) (EDIT_WORDS - n * FIELDS) w v j (omega arith) long ∙ ⊎_elim
+    (λ (s : j < n * FIELDS). rw (lt-ltb j (n * FIELDS) s) refl)
+    (λ (s : n * FIELDS ≤ j). rw (le-ltb j (n * FIELDS) s, lt-ltb j (n * FIELDS + (EDIT_WORDS - n * FIELDS)) (omega arith), e, zero_at (EDIT_WORDS - n * FIELDS) (j - n * FIELDS), no_fields (j - n * FIELDS)) refl)
+    (below_or j (n * FIELDS)))
+
+-- an entry behind the first n
+pub push_is : (n k : ℕ) (e : Entry) (w u v : List ℕ) → n < EDITS → k ≡ FIELDS → u ≡ ending n none w → v ≡ fields e → put_mid (n * FIELDS) k u v ≡ ending n e w
+unfolding ending ending_at choose
+push_is n k e w u v m s is l = ap (λ (k : ℕ). put_mid (n * FIELDS) k u v) s ∙
+    let long : length u ≡ EDIT_WORDS = ap length is ∙ ending_long n none w in
+    let six : length v ≡ FIELDS = ap length l in
+    tabulated 0 EDIT_WORDS (ending_at n e w) (put_mid (n * FIELDS) FIELDS u v) (put_long (n * FIELDS) FIELDS u v (omega arith) six ∙ long)
+    (λ j b. put_at (n * FIELDS) FIELDS u v j (omega arith) six ∙ word j b)
+  where
+    word : (j : ℕ) → j < EDIT_WORDS → choose (ltb j (n * FIELDS)) (get_or u j 0) (choose (ltb j (n * FIELDS + FIELDS)) (get_or v (j - n * FIELDS) 0) (get_or u j 0)) ≡ ending_at n e w j
+    word j b = ⊎_elim
+        (λ (s : j < n * FIELDS). rw (lt-ltb j (n * FIELDS) s, is) (word_before n none w j b s))
+        (λ (s : n * FIELDS ≤ j). rw (le-ltb j (n * FIELDS) s) (⊎_elim
+        (λ (t : j < n * FIELDS + FIELDS). rw (lt-ltb j (n * FIELDS + FIELDS) t, l) refl)
+        (λ (t : n * FIELDS + FIELDS ≤ j). rw (le-ltb j (n * FIELDS + FIELDS) t, is) (words_kept n w j s ∙ sym (get_or-eq_default (fields e) 0 {n = j - n * FIELDS} (omega arith))))
+        (below_or j (n * FIELDS + FIELDS))))
+        (below_or j (n * FIELDS))

@@ -5,9 +5,12 @@ use Rattle.model.specs.Limits.{BOXES}
 use Rattle.edits.specs.Records.{at, place}
 use Rattle.edits.specs.History.{History, FIELDS}
 use Rattle.edits.specs.Allowed.{allowed}
-use Rattle.edits.specs.Plan.{Change, Delete}
-use Rattle.edits.specs.Edited.{Request, Make, Undo, Edited, accepted, fitting}
+use Rattle.edits.specs.Edited.{Edited, accepted, fitting}
 use Rattle.edits.specs.declared.BoxRecord.{BoxRecord}
+use Rattle.edits.specs.declared.Change.{Change}
+use Rattle.edits.specs.declared.Change.TheVariants.{Delete}
+use Rattle.edits.specs.declared.Request.{Request}
+use Rattle.edits.specs.declared.Request.TheVariants.{Make, Undo}
 
 -- what answers: any function of a list, a history and a request
 abbrev pub Answers : Type 0

@@ -1,14 +1,26 @@
 -- What private functions promise each other. Nobody has to believe these: no public contract mentions them.
-use Rattle.std.specs.Prelude.{◌≡◌, List, ℕ, ◌<◌, ◌^◌}
+use Rattle.std.specs.Prelude.{◌≡◌, Bool, true, false, List, ℕ, Option, Some, None, ◌<◌, ◌^◌, eqb}
+use Rattle.laws.specs.Choice.{choose}
 use Rattle.laws.specs.Bits.{bit}
 use Rattle.model.specs.Limits.{BOXES}
 use Rattle.edits.specs.Records.{at, boxes}
-use Rattle.edits.specs.History.{History, ADD, DELETE, DRAW}
-use Rattle.edits.specs.Plan.{no, plan}
-use Rattle.edits.specs.Edited.{Request, Make, Undo, Drop, Unknown}
+use Rattle.edits.specs.History.{History, past, ADD, DELETE, DRAW}
 use Rattle.edits.specs.declared.BoxRecord.{BoxRecord}
+use Rattle.edits.specs.declared.history.Past.{Past}
 use Rattle.edits.specs.declared.Entry.{Entry}
-use Rattle.edits.specs.declared.Plan.{Plan}
+
+-- the history that the code passes on
+abbrev pub said : Past → History
+said p = past p.count p.words.now
+
+-- a place, where there is one
+abbrev pub found : ℕ → Option ℕ
+found k = choose (eqb k BOXES) None (Some k)
+
+-- a place's bit, by whether it is in the set
+abbrev pub one_if : Bool → ℕ
+one_if true = 1
+one_if false = 0
 
 -- the arrows of every record leave room for one position more
 pub record Small (list : List BoxRecord) : Type 0 where
@@ -33,10 +45,3 @@ pub record Undoable (e : Entry) (list : List BoxRecord) : Type 0 where
   pub delete : e.kind ≡ DELETE → (e.at < BOXES) × Small list
   pub draw : e.kind ≡ DRAW → Between e list 1
   pub erase : (e.kind ≡ ADD → ⊥) → (e.kind ≡ DELETE → ⊥) → (e.kind ≡ DRAW → ⊥) → Between e list 0
-
--- a request that makes no change has no plan
-unfoldable pub plan_of : List BoxRecord → History → Request → Plan
-plan_of list h (Make change) = plan list h change
-plan_of list h Undo = no 12
-plan_of list h Drop = no 12
-plan_of list h Unknown = no 12

@@ -1,16 +1,20 @@
 -- What the edits promise, a statement each. `proofs/Promises` proves them.
 use Rattle.std.specs.Prelude.{◌≡◌, true, false, List, [], ◌∷◌, ℕ, suc, ◌*◌, ◌≤◌, get_or, replicate}
 use Rattle.model.specs.Limits.{BOXES, EDITS}
+use Rattle.model.specs.declared.refusal.Refusal.TheVariants.{Rules}
 use Rattle.edits.specs.Records.{blank, at, boxes, place}
 use Rattle.edits.specs.History.{History, FIELDS, fresh, keep, newest, rest, deleted}
 use Rattle.edits.specs.Allowed.{allowed}
-use Rattle.edits.specs.Plan.{Change, Add, Delete}
 use Rattle.edits.specs.Done.{new_box, undone}
 use Rattle.edits.specs.Fits.{fits}
 use Rattle.edits.specs.Gives.{Gives}
-use Rattle.edits.specs.Edited.{Request, Make, Undo, Drop, Edited, refused, accepted, fitting, edited}
+use Rattle.edits.specs.Edited.{Edited, refused, accepted, fitting, edited}
 use Rattle.edits.specs.declared.BoxRecord.{BoxRecord}
+use Rattle.edits.specs.declared.Change.{Change}
+use Rattle.edits.specs.declared.Change.TheVariants.{Add, Delete}
 use Rattle.edits.specs.declared.Entry.{Entry}
+use Rattle.edits.specs.declared.Request.{Request}
+use Rattle.edits.specs.declared.Request.TheVariants.{Make, Undo, Drop}
 
 -- ---- lists that these calls build from a fresh one
 pub data Built : List BoxRecord → History → Type 0 where
@@ -56,14 +60,14 @@ abbrev pub FitsExactly : Type 0
 FitsExactly = (l : List BoxRecord) (h : History) → fitting l h ≡ true → allowed l h ≡ true → (h.count ≡ 0 → ⊥)
     → (fits (newest h) l ≡ true → Gives (undone (newest h) l) (rest h) (newest h) l) × ((m : List BoxRecord) → Gives m (rest h) (newest h) l → fits (newest h) l ≡ true)
 
--- undo's own clause: answered by the list that gives this one, and refused by 12 where there is none
+-- undo's own clause: answered by the list that gives this one, and refused by `Rules` where there is none
 abbrev pub UndoFinds : Type 0
 UndoFinds = (m l : List BoxRecord) (h : History) → fitting l h ≡ true → allowed l h ≡ true → (h.count ≡ 0 → ⊥)
     → Gives m (rest h) (newest h) l → edited l h Undo ≡ accepted m (keep (rest h).count h)
 
 abbrev pub UndoRefuses : Type 0
 UndoRefuses = (l : List BoxRecord) (h : History) → fitting l h ≡ true → allowed l h ≡ true → (h.count ≡ 0 → ⊥)
-    → ((m : List BoxRecord) → Gives m (rest h) (newest h) l → ⊥) → edited l h Undo ≡ refused l h 12
+    → ((m : List BoxRecord) → Gives m (rest h) (newest h) l → ⊥) → edited l h Undo ≡ refused l h Rules
 
 -- ---- ids and room
 -- an id is not used again while its deletion is in the history

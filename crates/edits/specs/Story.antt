@@ -5,10 +5,12 @@ use Rattle.laws.specs.Bits.{bit}
 use Rattle.model.specs.Limits.{BOXES}
 use Rattle.edits.specs.Records.{blank, at}
 use Rattle.edits.specs.History.{fresh}
-use Rattle.edits.specs.Plan.{Add, Draw}
-use Rattle.edits.specs.Edited.{Request, Make, Edited, accepted}
+use Rattle.edits.specs.Edited.{Edited, accepted}
 use Rattle.edits.specs.Promises.{after}
 use Rattle.edits.specs.declared.BoxRecord.{BoxRecord}
+use Rattle.edits.specs.declared.Change.TheVariants.{Add, Draw}
+use Rattle.edits.specs.declared.Request.{Request}
+use Rattle.edits.specs.declared.Request.TheVariants.{Make}
 
 -- ---- what a user sees
 -- the arrows that stand

@@ -1,30 +1,30 @@
 // Sets of positions as words.
-ghost use Rattle.std.specs.Prelude.{◌≡◌, ◌+◌, ◌-◌, ◌<◌, ◌^◌, ltb};
+ghost use Rattle.std.specs.Prelude.{◌≡◌, ◌+◌, ◌-◌, ◌<◌, ◌^◌, not, eqb, ltb};
 ghost use Rattle.laws.specs.Bits.{bit, cut, put};
+ghost use Rattle.edits.specs.Private.{one_if};
 
 fn power(p: usize) -> u32
     requires { p < 32 }
     ensures { result ≡ 2 ^ p }
 {
-    1u32 << (p as u32)
+    1 << p
 }
 
-// 1 if position k is in the set, else 0.
-pub(crate) fn bit_of(set: u32, k: usize) -> u32
+// Whether position k is in the set.
+pub(crate) fn has(set: u32, k: usize) -> bool
     requires { k < 32 }
-    ensures { result ≡ bit k set }
+    ensures within { result ≡ eqb (bit k set) 1 }
+    ensures without { not result ≡ eqb (bit k set) 0 }
+    ensures number { one_if result ≡ bit k set }
 {
-    (set >> (k as u32)) % 2
+    (set >> k) % 2 == 1
 }
 
 // Whether the set's positions are below n: a word's own width needs no test.
 pub(crate) fn within(set: u32, n: usize) -> bool
     ensures { result ≡ ltb set (2 ^ n) }
 {
-    if n >= 32 {
-        return true;
-    }
-    set < power(n)
+    n >= 32 || set < power(n)
 }
 
 // The set with position k, which isn't in it.
@@ -52,11 +52,11 @@ pub(crate) fn cut_of(set: u32, p: usize) -> u32
     set % low + set / low / 2 * low
 }
 
-// Position p put in, with bit b: those from it on move up.
-pub(crate) fn put_of(set: u32, p: usize, b: u32) -> u32
-    requires { (p < 32) × ((b < 2) × (set < 2 ^ 31)) }
-    ensures { result ≡ put p b set }
+// Position p put in, in the set or not: those from it on move up.
+pub(crate) fn put_of(set: u32, p: usize, b: bool) -> u32
+    requires { (p < 32) × (set < 2 ^ 31) }
+    ensures { result ≡ put p (one_if b) set }
 {
     let low = power(p);
-    set % low + (set / low * 2 + b) * low
+    set % low + (set / low * 2 + u32::from(b)) * low
 }

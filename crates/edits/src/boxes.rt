@@ -1,187 +1,131 @@
-// The list of boxes, by value: how many there are, where one stands, and what moves when one goes or comes back.
-ghost use Rattle.std.specs.Prelude.{◌≡◌, ◌<◌};
+// The list of boxes: how many there are, where one stands, and what moves when one goes or comes back.
+// A position is a number with a bound in the `requires`: a type of its own would be taken apart at each index and each bit.
+ghost use Rattle.std.specs.Prelude.{◌≡◌, ◌<◌, IfSome};
 ghost use Rattle.model.specs.Limits.{BOXES};
-ghost use Rattle.edits.specs.Records.{blank, at, lives, is_with, boxes, place};
-ghost use Rattle.edits.specs.Moved.{with_arrows, skip, unskip, arrow_into, column_of, left_at, without_box, back_at, with_box};
-ghost use Rattle.edits.specs.Private.{Small};
+ghost use Rattle.edits.specs.Records.{at, lives, is_with, boxes, place};
+ghost use Rattle.edits.specs.Moved.{skip, unskip, column_of, left_at, without_box, back_at, with_box};
+ghost use Rattle.edits.specs.Private.{Small, found};
 
 use super::BoxRecord;
 
-pub(crate) fn no_box() -> BoxRecord
-    ensures { result ≡ blank }
-{
-    BoxRecord {
-        id: 0,
-        live: 0,
-        arrows: 0,
+impl BoxRecord {
+    fn is_live(self) -> bool
+        ensures { result ≡ lives self }
+    {
+        self.live == 1
+    }
+
+    fn is_with(self, id: u32) -> bool
+        ensures { result ≡ is_with self id }
+    {
+        self.is_live() && self.id == id
     }
 }
 
 // The record at k, blank beyond the end.
-pub(crate) fn record_at(list: [BoxRecord; model::BOXES], k: usize) -> BoxRecord
-    ensures { result ≡ at list k }
+pub(crate) fn record_at(list: &[BoxRecord; model::BOXES], k: usize) -> BoxRecord
+    ensures { result ≡ at list.now k }
 {
-    if k < model::BOXES {
-        return list[k];
-    }
-    no_box()
-}
-
-fn is_live(item: BoxRecord) -> bool
-    ensures { result ≡ lives item }
-{
-    item.live == 1
+    list.get(k).copied().unwrap_or_default()
 }
 
 // How many boxes there are.
-pub(crate) fn boxes_of(list: [BoxRecord; model::BOXES]) -> usize
-    ensures { result ≡ boxes list }
+pub(crate) fn boxes_of(list: &[BoxRecord; model::BOXES]) -> usize
+    ensures { result ≡ boxes list.now }
 {
-    'boxes: for k in 0..model::BOXES {
-        if is_live(list[k]) {
-            continue 'boxes;
-        }
-        return k;
-    }
-    model::BOXES
+    list.iter()
+        .position(|item| !item.is_live())
+        .unwrap_or(model::BOXES)
 }
 
-fn is_with(item: BoxRecord, id: u32) -> bool
-    ensures { result ≡ is_with item id }
+// Where the box with this id stands.
+pub(crate) fn place_of(list: &[BoxRecord; model::BOXES], id: u32) -> Option<usize>
+    ensures place { result ≡ found (place list.now id) }
+    ensures bound { IfSome result (λ p. p < BOXES) }
 {
-    if item.live != 1 {
-        return false;
-    }
-    item.id == id
-}
-
-// Where the box with this id stands, or BOXES.
-pub(crate) fn place_of(list: [BoxRecord; model::BOXES], id: u32) -> usize
-    ensures { result ≡ place list id }
-{
-    'boxes: for k in 0..model::BOXES {
-        if is_with(list[k], id) {
-            return k;
-        }
-    }
-    model::BOXES
-}
-
-pub(crate) fn with_arrows(item: BoxRecord, set: u32) -> BoxRecord
-    ensures { result ≡ with_arrows item set }
-{
-    BoxRecord {
-        id: item.id,
-        live: item.live,
-        arrows: set,
-    }
+    list.iter().position(|item| item.is_with(id))
 }
 
 fn skip_of(p: usize, k: usize) -> usize
     requires { k < BOXES }
     ensures { result ≡ skip p k }
 {
-    if k < p {
-        return k;
-    }
-    k + 1
+    if k < p { k } else { k + 1 }
 }
 
-fn left_at(list: [BoxRecord; model::BOXES], p: usize, k: usize) -> BoxRecord
+fn left_at(list: &[BoxRecord; model::BOXES], p: usize, k: usize) -> BoxRecord
     requires { (p < BOXES) × (k < BOXES) }
-    ensures { result ≡ left_at list p k }
+    ensures { result ≡ left_at list.now p k }
 {
     let item = record_at(list, skip_of(p, k));
-    with_arrows(item, super::bits::cut_of(item.arrows, p))
+    BoxRecord {
+        arrows: super::bits::cut_of(item.arrows, p),
+        ..item
+    }
 }
 
 // The list without the box at p.
-pub(crate) fn without_box(list: [BoxRecord; model::BOXES], p: usize) -> [BoxRecord; model::BOXES]
+pub(crate) fn without_box(list: &[BoxRecord; model::BOXES], p: usize) -> [BoxRecord; model::BOXES]
     requires { p < BOXES }
-    ensures { result ≡ without_box list p }
+    ensures { result ≡ without_box list.now p }
 {
-    let mut left = [BoxRecord {
-        id: 0,
-        live: 0,
-        arrows: 0,
-    }; model::BOXES];
-    'boxes: for k in 0..model::BOXES {
-        left[k] = left_at(list, p, k);
-    }
-    left
-}
-
-fn arrow_into(list: [BoxRecord; model::BOXES], p: usize, k: usize) -> u32
-    requires { (p < BOXES) × (k < BOXES) }
-    ensures { result ≡ arrow_into list p k }
-{
-    let item = list[k];
-    super::bits::bit_of(item.arrows, p)
+    std::array::from_fn(|k| left_at(list, p, k))
 }
 
 // The boxes with an arrow into the one at p.
-pub(crate) fn column_of(list: [BoxRecord; model::BOXES], p: usize) -> u32
+pub(crate) fn column_of(list: &[BoxRecord; model::BOXES], p: usize) -> u32
     requires { p < BOXES }
-    ensures { result ≡ column_of list p }
+    ensures { result ≡ column_of list.now p }
 {
-    let mut column: u32 = 0;
-    let mut k = model::BOXES;
-    'boxes: while 0 < k {
-        k -= 1;
-        column = column * 2 + arrow_into(list, p, k);
+    let mut column = 0;
+    for (k, item) in list.iter().enumerate() {
+        if super::bits::has(item.arrows, p) {
+            column = super::bits::with_bit(column, k);
+        }
     }
     column
 }
 
 fn unskip_of(p: usize, k: usize) -> usize
     requires { (k < BOXES) × (k ≡ p → ⊥) }
-    ensures value { result ≡ unskip p k }
-    ensures upper_bound { result < BOXES }
+    ensures moved { result ≡ unskip p k }
+    ensures bound { result < BOXES }
 {
-    if k < p {
-        return k;
-    }
-    k - 1
+    if k < p { k } else { k - 1 }
 }
 
 fn back_at(
-    list: [BoxRecord; model::BOXES],
+    list: &[BoxRecord; model::BOXES],
     p: usize,
     item: BoxRecord,
     into: u32,
     k: usize,
 ) -> BoxRecord
-    requires small { Small list }
-    requires p_bound { (p < BOXES) × (k < BOXES) }
-    ensures { result ≡ back_at list p item into k }
+    requires small { Small list.now }
+    requires places { (p < BOXES) × (k < BOXES) }
+    ensures { result ≡ back_at list.now p item into k }
 {
     if k == p {
         return item;
     }
-    let j = unskip_of(p, k);
-    let moved = list[j];
-    let b = super::bits::bit_of(into, k);
-    with_arrows(moved, super::bits::put_of(moved.arrows, p, b))
+    let moved = list[unskip_of(p, k)];
+    let b = super::bits::has(into, k);
+    BoxRecord {
+        arrows: super::bits::put_of(moved.arrows, p, b),
+        ..moved
+    }
 }
 
 // The list with this box at p, and arrows into it from the boxes of a set.
 pub(crate) fn with_box(
-    list: [BoxRecord; model::BOXES],
+    list: &[BoxRecord; model::BOXES],
     p: usize,
     item: BoxRecord,
     into: u32,
 ) -> [BoxRecord; model::BOXES]
-    requires small { Small list }
-    requires p_bound { p < BOXES }
-    ensures { result ≡ with_box list p item into }
+    requires small { Small list.now }
+    requires place { p < BOXES }
+    ensures { result ≡ with_box list.now p item into }
 {
-    let mut back = [BoxRecord {
-        id: 0,
-        live: 0,
-        arrows: 0,
-    }; model::BOXES];
-    'boxes: for k in 0..model::BOXES {
-        back[k] = back_at(list, p, item, into, k);
-    }
-    back
+    std::array::from_fn(|k| back_at(list, p, item, into, k))
 }

@@ -1,98 +1,85 @@
-// A call on a list by value and a history that is lent.
-ghost use Rattle.std.specs.Prelude.{◌≡◌, true, length};
-ghost use Rattle.model.specs.Limits.{EDIT_WORDS};
+// A call on a list and a history of the right lengths. The three that are lent stay three parameters, as C lends them.
+ghost use Rattle.std.specs.Prelude.{◌≡◌, true};
 ghost use Rattle.edits.specs.History.{past, fresh};
 ghost use Rattle.edits.specs.Allowed.{allowed};
-ghost use Rattle.edits.specs.Edited.{outcome, accepted, planned, undo, edited, asked};
-ghost use Rattle.edits.specs.Private.{plan_of};
+ghost use Rattle.edits.specs.Plan.{plan};
+ghost use Rattle.edits.specs.Edited.{number, outcome, accepted, planned, undo, checked};
 
-use super::{Answer, BoxRecord};
+use super::history::Past;
+use super::{BoxRecord, Change, Request};
+use model::Refusal;
 
-fn answer(number: u32, list: [BoxRecord; model::BOXES]) -> Answer
-    ensures { (result.number ≡ number) × (result.list ≡ list) }
-{
-    Answer {
-        number: number,
-        list: list,
-    }
-}
-
-fn undo_last(list: [BoxRecord; model::BOXES], words: &mut [u32], count: &mut u32) -> Answer
-    requires words_len { length words.old ≡ EDIT_WORDS }
-    requires words_value { allowed list (past count.old words.old) ≡ true }
-    ensures { outcome result.number result.list count.new words.new ≡ undo list (past count.old words.old) }
+#[tactic(auto, unfolding(laws::specs::Choice::choose, crate::specs::Edited::undo))]
+fn undo_last(
+    list: &mut [BoxRecord; model::BOXES],
+    words: &mut [u32; model::EDIT_WORDS],
+    count: &mut u32,
+) -> Result<(), Refusal>
+    requires { allowed list.old (past count.old words.old) ≡ true }
+    ensures { outcome (number result) list.new count.new words.new ≡ undo list.old (past count.old words.old) }
 {
     let n = *count;
     if n == 0 {
-        return answer(16, list);
+        return Err(Refusal::NothingToUndo);
     }
     let newest = n as usize - 1;
     let e = super::history::entry_at(words, newest);
-    if super::changes::fits_now(e, list) {
-        let before = super::changes::undone_of(list, e);
-        super::history::write_end(words, newest, super::history::no_entry());
-        *count = n - 1;
-        return answer(0, before);
+    if !super::changes::fits_now(e, list) {
+        return Err(Refusal::Rules);
     }
-    answer(12, list)
+    super::changes::undo(list, e);
+    super::history::cut(words, newest);
+    *count = n - 1;
+    Ok(())
 }
 
-fn drop_all(list: [BoxRecord; model::BOXES], words: &mut [u32], count: &mut u32) -> Answer
-    requires { length words.old ≡ EDIT_WORDS }
-    ensures { outcome result.number result.list count.new words.new ≡ accepted list fresh }
+fn drop_all(words: &mut [u32; model::EDIT_WORDS], count: &mut u32)
+    ensures { past count.new words.new ≡ fresh }
 {
-    super::history::write_end(words, 0, super::history::no_entry());
+    super::history::cut(words, 0);
     *count = 0;
-    answer(0, list)
 }
 
+#[tactic(auto, unfolding(crate::specs::Edited::planned))]
 fn change(
-    list: [BoxRecord; model::BOXES],
-    words: &mut [u32],
+    list: &mut [BoxRecord; model::BOXES],
+    words: &mut [u32; model::EDIT_WORDS],
     count: &mut u32,
-    kind: u32,
-    first: u32,
-    second: u32,
-) -> Answer
-    requires words_len { length words.old ≡ EDIT_WORDS }
-    requires words_value { allowed list (past count.old words.old) ≡ true }
-    ensures { outcome result.number result.list count.new words.new ≡ planned list (past count.old words.old) (plan_of list (past count.old words.old) (asked kind first second)) }
+    asked: Change,
+) -> Result<(), Refusal>
+    requires { allowed list.old (past count.old words.old) ≡ true }
+    ensures { outcome (number result) list.new count.new words.new ≡ planned list.old (past count.old words.old) (plan list.old (past count.old words.old) asked) }
 {
     let n = *count;
-    let plan = super::plans::plan_of(list, words, n as usize, kind, first, second);
-    let number = plan.number;
-    if number != 0 {
-        return answer(number, list);
-    }
-    let e = plan.entry;
-    let after = super::changes::done_of(list, e);
-    super::history::write_end(words, n as usize, e);
+    let past = Past {
+        words,
+        count: n as usize,
+    };
+    let e = super::plans::plan_of(list, past, asked)?;
+    super::changes::make(list, e);
+    super::history::push(words, n as usize, e);
     *count = n + 1;
-    answer(0, after)
+    Ok(())
 }
 
-pub(crate) fn edit_list(
-    list: [BoxRecord; model::BOXES],
-    words: &mut [u32],
+pub(crate) fn answer(
+    list: &mut [BoxRecord; model::BOXES],
+    words: &mut [u32; model::EDIT_WORDS],
     count: &mut u32,
-    kind: u32,
-    first: u32,
-    second: u32,
-) -> Answer
-    ensures { outcome result.number result.list count.new words.new ≡ edited list (past count.old words.old) (asked kind first second) }
+    request: Request,
+) -> Result<(), Refusal>
+    ensures { outcome (number result) list.new count.new words.new ≡ checked list.old (past count.old words.old) request }
 {
-    if words.len() != model::EDIT_WORDS {
-        return answer(10, list);
+    if !super::allowed::is_allowed(list, words, *count as usize) {
+        return Err(Refusal::Rules);
     }
-    let n = *count;
-    if !super::allowed::is_allowed(list, words, n as usize) {
-        return answer(12, list);
+    match request {
+        Request::Make(asked) => change(list, words, count, asked),
+        Request::Undo => undo_last(list, words, count),
+        Request::Drop => {
+            drop_all(words, count);
+            Ok(())
+        }
+        Request::Unknown => Err(Refusal::Rules),
     }
-    if kind == super::UNDO {
-        return undo_last(list, words, count);
-    }
-    if kind == super::DROP {
-        return drop_all(list, words, count);
-    }
-    change(list, words, count, kind, first, second)
 }

@@ -1,6 +1,6 @@
 // The history, as words: its entries, the ids that they delete, and writing its end.
-ghost use Rattle.std.specs.Prelude.{◌≡◌, ◌<◌, ◌≤◌, length, get_or};
-ghost use Rattle.model.specs.Limits.{EDITS, EDIT_WORDS};
+ghost use Rattle.std.specs.Prelude.{◌≡◌, ◌<◌, ◌≤◌};
+ghost use Rattle.model.specs.Limits.{EDITS};
 ghost use Rattle.edits.specs.History.{fields, entry, none, ending, takes, deleted_by};
 
 use super::Entry;
@@ -8,21 +8,23 @@ use super::Entry;
 // The words of an entry.
 const FIELDS: usize = 6;
 
-pub(crate) fn no_entry() -> Entry
-    ensures { result ≡ none }
-{
-    Entry {
-        kind: 0,
-        at: 0,
-        to: 0,
-        id: 0,
-        out: 0,
-        into: 0,
+impl Entry {
+    fn takes(self, id: u32) -> bool
+        ensures { result ≡ takes self id }
+    {
+        self.kind == super::DELETE && self.id == id
+    }
+
+    fn fields(self) -> [u32; FIELDS]
+        ensures { result ≡ fields self }
+    {
+        [self.kind, self.at, self.to, self.id, self.out, self.into]
     }
 }
 
-pub(crate) fn entry_at(words: &[u32], k: usize) -> Entry
-    requires { (length words.now ≡ EDIT_WORDS) × (k < EDITS) }
+#[tactic(auto, unfolding(crate::specs::History::entry))]
+pub(crate) fn entry_at(words: &[u32; model::EDIT_WORDS], k: usize) -> Entry
+    requires { k < EDITS }
     ensures { result ≡ entry words.now k }
 {
     let start = k * FIELDS;
@@ -36,46 +38,48 @@ pub(crate) fn entry_at(words: &[u32], k: usize) -> Entry
     }
 }
 
-fn takes_id(e: Entry, id: u32) -> bool
-    ensures { result ≡ takes e id }
-{
-    if e.kind != super::DELETE {
-        return false;
-    }
-    e.id == id
+// The words that a host lends, and how many entries of them count.
+#[derive(Clone, Copy)]
+pub(crate) struct Past<'a> {
+    pub(crate) words: &'a [u32; model::EDIT_WORDS],
+    pub(crate) count: usize,
+    ghost few: { count ≤ EDITS },
 }
 
-// Whether one of the first n entries deletes this id.
-pub(crate) fn deleted_by(words: &[u32], n: usize, id: u32) -> bool
-    requires { (length words.now ≡ EDIT_WORDS) × (n ≤ EDITS) }
-    ensures { result ≡ deleted_by words.now n id }
-{
-    'entries: for k in 0..n {
-        if takes_id(entry_at(words, k), id) {
-            return true;
+impl<'a> Past<'a> {
+    // Whether an entry deletes this id.
+    pub(crate) fn deletes(self, id: u32) -> bool
+        ensures { result ≡ deleted_by self.entry.words.now self.entry.count id }
+    {
+        (0..self.count).any(|k| entry_at(self.words, k).takes(id))
+    }
+
+    // The first k entries alone.
+    pub(crate) fn first(self, k: usize) -> Past<'a>
+        requires { k ≤ EDITS }
+        ensures { (result.words ≡ self.entry.words) × (result.count ≡ k) }
+    {
+        Past {
+            words: self.words,
+            count: k,
         }
     }
-    false
 }
 
-// Field i of an entry, and 0 beyond them.
-fn field_of(e: Entry, i: usize) -> u32
-    ensures { result ≡ get_or (fields e) i 0 }
+// Nothing stays behind the first n entries.
+pub(crate) fn cut(words: &mut [u32; model::EDIT_WORDS], n: usize)
+    requires { n ≤ EDITS }
+    ensures { words.new ≡ ending n none words.old }
 {
-    let fields = [e.kind, e.at, e.to, e.id, e.out, e.into];
-    if i < FIELDS {
-        return fields[i];
-    }
-    0
+    words[n * FIELDS..].fill(0);
 }
 
-// Writes an entry behind the first n, and blank words behind it.
-pub(crate) fn write_end(words: &mut [u32], n: usize, e: Entry)
-    requires { (length words.old ≡ EDIT_WORDS) × (n ≤ EDITS) }
+// An entry behind the first n, and nothing behind it.
+pub(crate) fn push(words: &mut [u32; model::EDIT_WORDS], n: usize, e: Entry)
+    requires { n < EDITS }
     ensures { words.new ≡ ending n e words.old }
 {
+    cut(words, n);
     let start = n * FIELDS;
-    'words: for j in start..model::EDIT_WORDS {
-        words[j] = field_of(e, j - start);
-    }
+    words[start..start + FIELDS].copy_from_slice(&e.fields());
 }

@@ -1,5 +1,5 @@
 // Edits of the list of boxes that a host lends, with undo: add, delete, draw, erase.
-#![tactic(auto)]
+#![tactic(auto, unfolding(laws::specs::Choice::both, laws::specs::Choice::choose, laws::specs::Choice::brings))]
 
 mod allowed;
 mod bits;
@@ -9,13 +9,13 @@ mod changes;
 mod history;
 mod plans;
 
-ghost use Rattle.std.specs.Prelude.{◌≡◌, ◌<◌, length, set, replicate};
-ghost use Rattle.model.specs.Limits.{BOXES};
-ghost use Rattle.edits.specs.Records.{blank, at};
+ghost use Rattle.std.specs.Prelude.{◌≡◌};
 ghost use Rattle.edits.specs.History.{past};
-ghost use Rattle.edits.specs.Edited.{asked, outcome, edited};
+ghost use Rattle.edits.specs.Edited.{asked, number, outcome, edited};
 
-// The kinds of a request; the first four are those of an entry, too.
+use model::Refusal;
+
+// The kinds of a request; the first four are those of an entry, too. They are numbers, since hosts give and keep them.
 pub const ADD: u32 = 1;
 
 pub const DELETE: u32 = 2;
@@ -30,15 +30,16 @@ pub const DROP: u32 = 6;
 
 // A box, with live 1; or no box, all zero. Bit u of arrows: an arrow to the box at position u.
 #[repr(C)]
-#[derive(Clone, Copy)]
+#[derive(Clone, Copy, Default, PartialEq, Eq)]
 pub struct BoxRecord {
     pub id: u32,
     pub live: u32,
     pub arrows: u32,
 }
 
-// An edit that was done, with what undoes it. What a kind doesn't use is zero.
-#[derive(Clone, Copy)]
+// An edit that was done, with what undoes it. What a kind doesn't use is zero. The kind is a number and no enum,
+// since the fields are words that a host keeps; `as` makes positions of them, since Rust has no `From` between u32 and usize.
+#[derive(Clone, Copy, Default)]
 pub struct Entry {
     pub kind: u32,
     pub at: u32,
@@ -48,96 +49,72 @@ pub struct Entry {
     pub into: u32,
 }
 
-// The entry that does what is asked for, or a refusal's number and none.
+// What a host asks to be changed; boxes by their ids.
 #[derive(Clone, Copy)]
-pub struct Plan {
-    pub number: u32,
-    pub entry: Entry,
+pub enum Change {
+    Add(u32),
+    Delete(u32),
+    Draw(u32, u32),
+    Erase(u32, u32),
 }
 
-// A call's number, 0 or the refusal's, and the list afterwards.
+// What is asked for. What is unknown is refused by `Rules`, and only after the list's own faults.
 #[derive(Clone, Copy)]
-pub struct Answer {
-    pub number: u32,
-    pub list: [BoxRecord; model::BOXES],
+pub enum Request {
+    Make(Change),
+    Undo,
+    Drop,
+    Unknown,
 }
 
-// The records by value.
-#[derive(Clone, Copy)]
-pub struct Loaded {
-    pub list: [BoxRecord; model::BOXES],
-}
-
-fn no_boxes() -> Loaded
-    ensures { result.list ≡ replicate BOXES blank }
-{
-    Loaded {
-        list: [BoxRecord {
-            id: 0,
-            live: 0,
-            arrows: 0,
-        }; model::BOXES],
+impl Request {
+    // By its kind and two ids.
+    #[tactic(auto, unfolding(laws::specs::Choice::choose, crate::specs::Edited::asked))]
+    fn asked(kind: u32, first: u32, second: u32) -> Request
+        ensures { result ≡ asked kind first second }
+    {
+        match kind {
+            ADD => Request::Make(Change::Add(first)),
+            DELETE => Request::Make(Change::Delete(first)),
+            DRAW => Request::Make(Change::Draw(first, second)),
+            ERASE => Request::Make(Change::Erase(first, second)),
+            UNDO => Request::Undo,
+            DROP => Request::Drop,
+            _ => Request::Unknown,
+        }
     }
 }
 
-fn put_record(boxes: Loaded, i: usize, item: BoxRecord) -> Loaded
-    requires { i < BOXES }
-    ensures { result.list ≡ set boxes.list i item }
+// 0, or the number of the refusal.
+pub fn number(answer: Result<(), Refusal>) -> u32
+    ensures { result ≡ number answer }
 {
-    let mut changed = boxes;
-    changed.list[i] = item;
-    changed
-}
-
-fn record_of(answer: Answer, i: usize) -> BoxRecord
-    requires { i < BOXES }
-    ensures { result ≡ at answer.list i }
-{
-    answer.list[i]
-}
-
-// The records that are lent, by value.
-fn load(list: &mut [BoxRecord]) -> Loaded
-    requires { length list.old ≡ BOXES }
-    ensures { (result.list ≡ list.old) × (list.new ≡ list.old) }
-{
-    let mut boxes = no_boxes();
-    let mut i = 0;
-    while i < model::BOXES {
-        let item = list[i];
-        boxes = put_record(boxes, i, item);
-        i += 1;
-    }
-    boxes
-}
-
-// The answer's records, given back.
-fn store(list: &mut [BoxRecord], answer: Answer)
-    requires { length list.old ≡ BOXES }
-    ensures { list.new ≡ answer.list }
-{
-    let mut i = 0;
-    while i < model::BOXES {
-        list[i] = record_of(answer, i);
-        i += 1;
+    match answer {
+        Ok(()) => 0,
+        Err(refusal) => u32::from(refusal.number()),
     }
 }
 
-fn edit_boxes(
-    boxes: Loaded,
+// What is asked for, done on a list and its history, which the host lends; by a refusal nothing changes.
+#[tactic(auto, unfolding(laws::specs::Choice::both, laws::specs::Choice::choose, laws::specs::Choice::brings, crate::specs::Edited::edited))]
+pub fn apply(
+    list: &mut [BoxRecord],
     history: &mut [u32],
     count: &mut u32,
-    kind: u32,
-    first: u32,
-    second: u32,
-) -> Answer
-    ensures { outcome result.number result.list count.new history.new ≡ edited boxes.list (past count.old history.old) (asked kind first second) }
+    request: Request,
+) -> Result<(), Refusal>
+    ensures { outcome (number result) list.new count.new history.new ≡ edited list.old (past count.old history.old) request }
 {
-    let list = boxes.list;
-    call::edit_list(list, history, count, kind, first, second)
+    let Some(boxes) = list.as_mut_array() else {
+        return Err(Refusal::Length);
+    };
+    let Some(words) = history.as_mut_array() else {
+        return Err(Refusal::Length);
+    };
+    call::answer(boxes, words, count, request)
 }
 
-// One edit of a list and its history, which the host lends: 0, or the number of the refusal, by which nothing changes.
+// The same, asked by a kind and two ids: 0, or the number of the refusal.
 pub fn edit(
     list: &mut [BoxRecord],
     history: &mut [u32],
@@ -148,11 +125,5 @@ pub fn edit(
 ) -> u32
     ensures { outcome result list.new count.new history.new ≡ edited list.old (past count.old history.old) (asked kind first second) }
 {
-    if list.len() != model::BOXES {
-        return 10;
-    }
-    let boxes = load(&mut *list);
-    let answer = edit_boxes(boxes, &mut *history, &mut *count, kind, first, second);
-    store(&mut *list, answer);
-    answer.number
+    number(apply(list, history, count, Request::asked(kind, first, second)))
 }

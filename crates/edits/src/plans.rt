@@ -1,158 +1,86 @@
 // The entry that does what is asked for, or why it is refused.
-ghost use Rattle.std.specs.Prelude.{◌≡◌, ◌<◌, ◌≤◌, length};
-ghost use Rattle.model.specs.Limits.{BOXES, EDITS, EDIT_WORDS};
+ghost use Rattle.std.specs.Prelude.{◌≡◌};
 ghost use Rattle.edits.specs.Records.{place};
-ghost use Rattle.edits.specs.History.{past};
-ghost use Rattle.edits.specs.Plan.{Add, no, yes, added, deletion, arrow, plan_delete, plan_arrow, plan_change};
-ghost use Rattle.edits.specs.Edited.{asked};
-ghost use Rattle.edits.specs.Private.{plan_of};
+ghost use Rattle.edits.specs.Private.{one_if, said};
+ghost use Rattle.edits.specs.Plan.{plan_delete, plan_arrow, plan_change, plan};
+ghost use Rattle.edits.specs.declared.Change.TheVariants.{Add};
 
-use super::{BoxRecord, Entry, Plan};
+use super::history::Past;
+use super::{BoxRecord, Change, Entry};
+use model::Refusal;
 
-fn refusal(number: u32) -> Plan
-    ensures { result ≡ no number }
+fn plan_add(list: &[BoxRecord; model::BOXES], past: Past, id: u32) -> Result<Entry, Refusal>
+    ensures { result ≡ plan_change list.now (said past.entry) (Add id) }
 {
-    Plan {
-        number: number,
-        entry: super::history::no_entry(),
+    if super::boxes::place_of(list, id).is_some() {
+        return Err(Refusal::UsedId);
     }
-}
-
-fn plan_added(id: u32) -> Plan
-    ensures { result ≡ yes (added id) }
-{
-    Plan {
-        number: 0,
-        entry: Entry {
-            kind: super::ADD,
-            at: 0,
-            to: 0,
-            id: id,
-            out: 0,
-            into: 0,
-        },
-    }
-}
-
-fn plan_deletion(list: [BoxRecord; model::BOXES], p: usize) -> Plan
-    requires { p < BOXES }
-    ensures { result ≡ yes (deletion list p) }
-{
-    let item = list[p];
-    let column = super::boxes::column_of(list, p);
-    Plan {
-        number: 0,
-        entry: Entry {
-            kind: super::DELETE,
-            at: p as u32,
-            to: 0,
-            id: item.id,
-            out: item.arrows,
-            into: column,
-        },
-    }
-}
-
-fn plan_between(kind: u32, i: usize, j: usize) -> Plan
-    requires { (i < BOXES) × (j < BOXES) }
-    ensures { result ≡ yes (arrow kind i j) }
-{
-    Plan {
-        number: 0,
-        entry: Entry {
-            kind: kind,
-            at: i as u32,
-            to: j as u32,
-            id: 0,
-            out: 0,
-            into: 0,
-        },
-    }
-}
-
-fn plan_add(list: [BoxRecord; model::BOXES], words: &[u32], count: usize, id: u32) -> Plan
-    requires { (length words.now ≡ EDIT_WORDS) × (count ≤ EDITS) }
-    ensures { result ≡ plan_change list (past count words.now) (Add id) }
-{
-    if super::boxes::place_of(list, id) < model::BOXES {
-        return refusal(14);
-    }
-    if super::history::deleted_by(words, count, id) {
-        return refusal(14);
+    if past.deletes(id) {
+        return Err(Refusal::UsedId);
     }
     if super::boxes::boxes_of(list) == model::BOXES {
-        return refusal(15);
+        return Err(Refusal::NoRoom);
     }
-    plan_added(id)
+    Ok(Entry {
+        kind: super::ADD,
+        id,
+        ..Entry::default()
+    })
 }
 
-fn plan_delete(list: [BoxRecord; model::BOXES], id: u32) -> Plan
-    ensures { result ≡ plan_delete list id }
+fn plan_delete(list: &[BoxRecord; model::BOXES], id: u32) -> Result<Entry, Refusal>
+    ensures { result ≡ plan_delete list.now id }
 {
-    let p = super::boxes::place_of(list, id);
-    if p >= model::BOXES {
-        return refusal(8);
-    }
-    plan_deletion(list, p)
+    let p = super::boxes::place_of(list, id).ok_or(Refusal::UnknownId)?;
+    let item = list[p];
+    Ok(Entry {
+        kind: super::DELETE,
+        at: p as u32,
+        to: 0,
+        id: item.id,
+        out: item.arrows,
+        into: super::boxes::column_of(list, p),
+    })
 }
 
-// The arrow between these boxes, where its bit is b.
-fn plan_arrow(list: [BoxRecord; model::BOXES], kind: u32, b: u32, i: usize, j: usize) -> Plan
-    requires { (i ≤ BOXES) × (j ≤ BOXES) }
-    ensures { result ≡ plan_arrow list kind b i j }
-{
-    if i == model::BOXES {
-        return refusal(8);
-    }
-    if j == model::BOXES {
-        return refusal(8);
-    }
-    if i == j {
-        return refusal(18);
-    }
-    let item = list[i];
-    if super::bits::bit_of(item.arrows, j) == b {
-        return plan_between(kind, i, j);
-    }
-    refusal(18)
-}
-
-fn plan_ids(list: [BoxRecord; model::BOXES], kind: u32, b: u32, source: u32, target: u32) -> Plan
-    ensures { result ≡ plan_arrow list kind b (place list source) (place list target) }
-{
-    let i = super::boxes::place_of(list, source);
-    let j = super::boxes::place_of(list, target);
-    plan_arrow(list, kind, b, i, j)
-}
-
-pub(crate) fn plan_of(
-    list: [BoxRecord; model::BOXES],
-    words: &[u32],
-    count: usize,
+// The arrow between the boxes with these ids, where it stands, or where it doesn't.
+fn plan_arrow(
+    list: &[BoxRecord; model::BOXES],
     kind: u32,
-    first: u32,
-    second: u32,
-) -> Plan
-    requires { (length words.now ≡ EDIT_WORDS) × (count ≤ EDITS) }
-    ensures { result ≡ plan_of list (past count words.now) (asked kind first second) }
+    stands: bool,
+    source: u32,
+    target: u32,
+) -> Result<Entry, Refusal>
+    ensures { result ≡ plan_arrow list.now kind (one_if stands) (place list.now source) (place list.now target) }
 {
-    if kind > super::ERASE {
-        return refusal(12);
+    let i = super::boxes::place_of(list, source).ok_or(Refusal::UnknownId)?;
+    let j = super::boxes::place_of(list, target).ok_or(Refusal::UnknownId)?;
+    if i == j || super::bits::has(list[i].arrows, j) != stands {
+        return Err(Refusal::Arrow);
     }
-    if kind == 0 {
-        return refusal(12);
+    Ok(Entry {
+        kind,
+        at: i as u32,
+        to: j as u32,
+        ..Entry::default()
+    })
+}
+
+#[tactic(auto, unfolding(laws::specs::Choice::choose, crate::specs::Plan::plan))]
+pub(crate) fn plan_of(
+    list: &[BoxRecord; model::BOXES],
+    past: Past,
+    change: Change,
+) -> Result<Entry, Refusal>
+    ensures { result ≡ plan list.now (said past.entry) change }
+{
+    if past.count == model::EDITS {
+        return Err(Refusal::LongHistory);
     }
-    if count == model::EDITS {
-        return refusal(17);
+    match change {
+        Change::Add(id) => plan_add(list, past, id),
+        Change::Delete(id) => plan_delete(list, id),
+        Change::Draw(source, target) => plan_arrow(list, super::DRAW, false, source, target),
+        Change::Erase(source, target) => plan_arrow(list, super::ERASE, true, source, target),
     }
-    if kind == super::ADD {
-        return plan_add(list, words, count, first);
-    }
-    if kind == super::DELETE {
-        return plan_delete(list, first);
-    }
-    if kind == super::DRAW {
-        return plan_ids(list, super::DRAW, 0, first, second);
-    }
-    plan_ids(list, super::ERASE, 1, first, second)
 }

@@ -5,3 +5,4 @@ pub mod Denoted
 pub mod Refused
 pub mod Good
 pub mod Highest
+pub mod Refusal

@@ -13,13 +13,14 @@ use lib.Dec.{eqb}
 use lib.ListN.{length, set, length-set}
 use lib.Seq.{get_or-set_same, get_or-set_other}
 use Rattle.laws.specs.Choice.{both}
-use Rattle.laws.specs.Range.{Held}
+use Rattle.laws.specs.Range.{Held, first}
 use Rattle.laws.proofs.Tests.{by_test, not_both, both_of, both_true, both_no}
 use Rattle.laws.proofs.Range.{every_at, every_of, every_held, every_not, held_more, first_at, first_none}
 use Rattle.laws.proofs.Cells.{cell, row}
 use Rattle.model.specs.Limits.{STATES, ACTIONS, NEXT_ENTRIES, OUTPUT_ENTRIES}
 use Rattle.needs.specs.Tables.{entry, Steps}
 use Rattle.needs.specs.Classes.{lowest, agrees, Missed, Below, Led}
+use Rattle.needs.specs.Laws.{agrees_now}
 use Rattle.needs.proofs.Classes.{lowest_le, lowest_holds}
 
 -- ---- the cells of the tables
@@ -50,24 +51,6 @@ module _ (step : ℕ → ℕ → ℕ) (actions : ℕ) (c : ℕ → ℕ) (t s : �
 
   pub agrees_more : {a x y : ℕ} → Held a (SameAfter step c t s) → x ≡ step t a → y ≡ step s a → c x ≡ c y → Held (a + 1) (SameAfter step c t s)
   agrees_more {a} h ex ey e = held_more (SameAfter step c t s) a h (eq-eqb _ _ (sym (ap c ex) ∙ e ∙ ap c ey))
-
--- ---- agreement is an equivalence
-module _ (step : ℕ → ℕ → ℕ) (actions : ℕ) (c : ℕ → ℕ) where
-  pub agrees_now : (t s : ℕ) → agrees step actions c t s ≡ true → c t ≡ c s
-  unfolding agrees
-  agrees_now t s e = eqb-true _ _ (both_true _ _ e).0
-
-  pub agrees_after : (t s a : ℕ) → a < actions → agrees step actions c t s ≡ true → c (step t a) ≡ c (step s a)
-  unfolding agrees
-  agrees_after t s a l e = eqb-true _ _ (every_at actions _ (both_true _ _ e).1 a l)
-
-  pub agrees_of : (t s : ℕ) → c t ≡ c s → ((a : ℕ) → a < actions → c (step t a) ≡ c (step s a)) → agrees step actions c t s ≡ true
-  unfolding agrees
-  agrees_of t s e h = both_of (eq-eqb _ _ e) (every_of actions _ (λ a l. eq-eqb _ _ (h a l)))
-
-  pub agrees_joined : (r t s : ℕ) → agrees step actions c r t ≡ true → agrees step actions c t s ≡ true → agrees step actions c r s ≡ true
-  agrees_joined r t s p q =
-      agrees_of r s (agrees_now r t p ∙ agrees_now t s q) (λ a l. agrees_after r t a l p ∙ agrees_after t s a l q)
 
 -- ---- the search for the first of a class
 module _ (inside : ℕ → Bool) (E : ℕ → ℕ → Bool) (s : ℕ) where
@@ -112,6 +95,11 @@ missed_start {states} step actions {inside} {c} {s} {x} w l e = record {
 module _ (inside : ℕ → Bool) (E : ℕ → ℕ → Bool) where
   pub led_none : {d : List ℕ} → length d ≡ STATES → Led inside E d 0
   led_none e = record { long = e; each = λ s l. absurd (not-suc-le-zero l) }
+
+  -- the first state is the first of its class
+  pub led_one : {d : List ℕ} → length d ≡ STATES → entry d 0 ≡ 0 → Led inside E d 1
+  unfolding lowest first
+  led_one {d} e z = record { long = e; each = below_more (λ j. entry d j ≡ lowest inside E j) 0 (λ j l. absurd (not-suc-le-zero l)) z }
 
   pub led_more : {d : List ℕ} {s v : ℕ} → Led inside E d s → s < STATES → v ≡ lowest inside E s → Led inside E (set d s v) (s + 1)
   led_more {d} {s} {v} h l e = record {

@@ -35,9 +35,10 @@ use Rattle.laws.proofs.Tables.{tabulated, count_beyond}
 use Rattle.needs.specs.Marks.{wanted_in, SortedOut}
 use Rattle.needs.specs.Rounds.{Known}
 use Rattle.needs.specs.Listed.{padded, Written}
-use Rattle.needs.specs.Answered.{told, depths_of, found_in, refused_with, lengths_fit, needed_of, list_of}
-use Rattle.needs.specs.declared.Needs.{Needs}
-use Rattle.needs.specs.declared.Outcome.TheVariants.{Found}
+use Rattle.needs.specs.Answered.{told, depths_of, found_in, lengths_fit, needed_of, list_of}
+use Rattle.std.specs.Prelude.{Ok, Err}
+use Rattle.model.specs.Refusal.{refused_as}
+use Rattle.model.specs.declared.refusal.Refusal.TheVariants.{Length, Rules}
 
 -- ---- a copy, flag by flag
 pub record CopiedTo (flags from : List Bool) (n : ℕ) : Type 0 where
@@ -106,9 +107,9 @@ module _ (m : Machine) (next outputs : List ℕ) (g : GoodTable m next) (set : S
   pub found_is : {flags table : List Bool} {depths list : List ℕ} {n k : ℕ} → flags ≡ listed set →
       SortedOut (machine_of m next outputs) (flag_at flags) table depths m.sizes.boxes →
       Written list (arrows_upto (wanted_in table) m.sizes.boxes m.sizes.boxes) n → k ≡ size set →
-      (record { outcome = Found n k; depths = depths } ≡ found_in (machine_of m next outputs)) × (list ≡ padded (needed_list (machine_of m next outputs)))
+      (record { count = n; reach = k; depths = depths } ≡ found_in (machine_of m next outputs)) × (list ≡ padded (needed_list (machine_of m next outputs)))
   found_is {flags} {table} {depths} {list} {n} {k} e s l z = (
-    λ i. record { outcome = Found (pairs i) (reachable i); depths = levels i },
+    λ i. record { count = pairs i; reach = reachable i; depths = levels i },
     l.is ∙ ap padded arrows,
   )
     where
@@ -128,51 +129,48 @@ module _ (m : Machine) (next outputs : List ℕ) (g : GoodTable m next) (set : S
       reachable = z ∙ size_same
 
 module _ (m : Machine) (next outputs list : List ℕ) where
-  pub needed_lengths : (r : Needs) → lengths_fit next outputs list ≡ false → r ≡ refused_with 10 → r ≡ needed_of m next outputs list
+  pub needed_lengths : lengths_fit next outputs list ≡ false → needed_of m next outputs list ≡ Err (refused_as Length 0)
   unfolding needed_of choose
-  needed_lengths r e q = rw e q
+  needed_lengths e = rw e refl
 
-  pub list_lengths : lengths_fit next outputs list ≡ false → list ≡ list_of m next outputs list
+  pub list_lengths : lengths_fit next outputs list ≡ false → list_of m next outputs list ≡ list
   unfolding list_of choose
-  list_lengths e = rw e
+  list_lengths e = rw e refl
 
-  pub needed_rules : (r : Needs) → lengths_fit next outputs list ≡ true → machine_table_fits m next ≡ false → r ≡ refused_with 12 → r ≡ needed_of m next outputs list
+  pub needed_rules : lengths_fit next outputs list ≡ true → machine_table_fits m next ≡ false → needed_of m next outputs list ≡ Err (refused_as Rules 0)
   unfolding needed_of choose
-  needed_rules r e f q = rw (e, f) q
+  needed_rules e f = rw (e, f) refl
 
-  pub list_rules : (l : List ℕ) → lengths_fit next outputs list ≡ true → machine_table_fits m next ≡ false → l ≡ replicate LIST_ENTRIES 0 → l ≡ list_of m next outputs list
+  pub list_rules : lengths_fit next outputs list ≡ true → machine_table_fits m next ≡ false → list_of m next outputs list ≡ replicate LIST_ENTRIES 0
   unfolding list_of choose
-  list_rules l e f q = rw (e, f) q
+  list_rules e f = rw (e, f) refl
 
-  pub needed_found : (r : Needs) → lengths_fit next outputs list ≡ true → machine_table_fits m next ≡ true → r ≡ found_in (machine_of m next outputs) → r ≡ needed_of m next outputs list
+  pub needed_found : lengths_fit next outputs list ≡ true → machine_table_fits m next ≡ true → needed_of m next outputs list ≡ Ok (found_in (machine_of m next outputs))
   unfolding needed_of choose
-  needed_found r e f q = rw (e, f) q
+  needed_found e f = rw (e, f) refl
 
-  pub list_found : (l : List ℕ) → lengths_fit next outputs list ≡ true → machine_table_fits m next ≡ true → l ≡ padded (needed_list (machine_of m next outputs)) →
-      l ≡ list_of m next outputs list
+  pub list_found : lengths_fit next outputs list ≡ true → machine_table_fits m next ≡ true → list_of m next outputs list ≡ padded (needed_list (machine_of m next outputs))
   unfolding list_of choose
-  list_found l e f q = rw (e, f) q
+  list_found e f = rw (e, f) refl
 
 -- which length is wrong
 module _ (next outputs list : List ℕ) where
-  pub lengths_outputs : (length outputs ≡ OUTPUT_ENTRIES → ⊥) → lengths_fit next outputs list ≡ false
+  pub lengths_outputs : eqb (length outputs) OUTPUT_ENTRIES ≡ false → lengths_fit next outputs list ≡ false
   unfolding lengths_fit both
-  lengths_outputs n = rw (ne_eqb _ _ n)
+  lengths_outputs e = rw e
 
-  pub lengths_list : (length list ≡ LIST_ENTRIES → ⊥) → lengths_fit next outputs list ≡ false
+  pub lengths_list : eqb (length list) LIST_ENTRIES ≡ false → lengths_fit next outputs list ≡ false
   unfolding lengths_fit both
-  lengths_list n = both_no (eqb (length outputs) OUTPUT_ENTRIES) (rw (ne_eqb _ _ n))
+  lengths_list e = both_no (eqb (length outputs) OUTPUT_ENTRIES) (rw e)
 
-  pub lengths_next : (length next ≡ NEXT_ENTRIES → ⊥) → lengths_fit next outputs list ≡ false
+  pub lengths_next : eqb (length next) NEXT_ENTRIES ≡ false → lengths_fit next outputs list ≡ false
   unfolding lengths_fit
-  lengths_next n = both_no (eqb (length outputs) OUTPUT_ENTRIES) (both_no (eqb (length list) LIST_ENTRIES) (ne_eqb _ _ n))
+  lengths_next e = both_no (eqb (length outputs) OUTPUT_ENTRIES) (both_no (eqb (length list) LIST_ENTRIES) e)
 
-  pub lengths_all : length outputs ≡ OUTPUT_ENTRIES → length list ≡ LIST_ENTRIES → length next ≡ NEXT_ENTRIES → lengths_fit next outputs list ≡ true
+  pub lengths_all : eqb (length outputs) OUTPUT_ENTRIES ≡ true → eqb (length list) LIST_ENTRIES ≡ true → eqb (length next) NEXT_ENTRIES ≡ true →
+      lengths_fit next outputs list ≡ true
   unfolding lengths_fit
-  lengths_all a b c = both_of (eq-eqb _ _ a) (both_of (eq-eqb _ _ b) (eq-eqb _ _ c))
-
-pub cleared : (l : List ℕ) {l' : List ℕ} → l' ≡ replicate (length l) 0 → length l ≡ LIST_ENTRIES → l' ≡ replicate LIST_ENTRIES 0
-cleared l e h = e ∙ ap (λ n. replicate n 0) h
+  lengths_all a b c = both_of a (both_of b c)
 
 -- ---- the set that `reached` gives
 pub known_of : (m : Machine) (next outputs : List ℕ) (set : Set) → length next ≡ NEXT_ENTRIES → machine_table_fits m next ≡ true →
@@ -183,7 +181,7 @@ known_of m next outputs set e f q =
 
 -- the numbers of each case: of the refusal, its line, of pairs, of reachable states
 pub told_needed : (m : Machine) (next outputs list : List ℕ) →
-    told (needed_of m next outputs list).outcome
+    told (needed_of m next outputs list)
     ≡ choose (lengths_fit next outputs list)
     (choose (machine_table_fits m next)
     (0 ∷ 0 ∷ length (needed_list (machine_of m next outputs)) ∷ count m.sizes.states (reached (machine_of m next outputs)) ∷ []) (12 ∷ 0 ∷ 0 ∷ 0 ∷ []))

@@ -34,6 +34,7 @@ use Rattle.model.specs.declared.Machine.{Machine}
 use Rattle.model.proofs.Good.{table_good}
 use Rattle.model.proofs.Denoted.{closed, owned}
 use Rattle.laws.proofs.Tables.{tabulate_at, length_tabulate}
+use Rattle.std.specs.Prelude.{Ok}
 use Rattle.needs.specs.Listed.{flat, padded}
 use Rattle.needs.specs.Answered.{depths_of, found_in, lengths_fit, needed_of, list_of}
 use Rattle.needs.specs.Demand.{Demand}
@@ -90,13 +91,13 @@ module _ (M : noninterference.Machine) (c : Closed M (λ s. s < M.states)) (w : 
 
 -- the answer and the list of a call that is not refused
 pub demand_3 : (m : Machine) (next outputs list : List ℕ) → lengths_fit next outputs list ≡ true → machine_table_fits m next ≡ true →
-    (needed_of m next outputs list ≡ found_in (machine_of m next outputs))
+    (needed_of m next outputs list ≡ Ok (found_in (machine_of m next outputs)))
     × Demand (machine_of m next outputs) (length (needed_list (machine_of m next outputs))) (count m.sizes.states (reached (machine_of m next outputs)))
     (depths_of (machine_of m next outputs)) (list_of m next outputs list)
 demand_3 m next outputs list e f = (
-  sym (needed_found m next outputs list _ e f refl),
+  needed_found m next outputs list e f,
   subst (Demand (machine_of m next outputs) (length (needed_list (machine_of m next outputs))) (count m.sizes.states (reached (machine_of m next outputs))) (depths_of (machine_of m next outputs)))
-      (list_found m next outputs list _ e f refl)
+      (sym (list_found m next outputs list e f))
       (demand (machine_of m next outputs) (closed m next outputs g) (owned m next outputs g.machine) g.machine.sizes.boxes_most),
 )
   where

@@ -21,7 +21,7 @@ use Rattle.needs.specs.Tables.{step_in, entry, Steps}
 use Rattle.needs.specs.Classes.{lowest, agrees, Led}
 use Rattle.needs.specs.Again.{Befores, Merged, Touched, Quiet, LeadAt, Leads}
 use Rattle.needs.proofs.Classes.{lowest_le, lowest_holds, lowest_least, lowest_case}
-use Rattle.needs.proofs.Agreeing.{agrees_now, agrees_after, agrees_of, agrees_joined}
+use Rattle.needs.specs.Laws.{agrees_now, agrees_after, agrees_of, agrees_joined}
 
 pub one_of : (a b : ℕ) (t : Bool) → eqb a b ≡ t → (a ≡ b) ⊎ (a ≢ b)
 one_of a b true e = inl (eqb-true a b e)

@@ -16,12 +16,11 @@ use Rattle.laws.specs.Choice.{both}
 use Rattle.laws.specs.Range.{Held}
 use Rattle.laws.proofs.Tests.{agree, brings_at, brings_of}
 use Rattle.laws.proofs.Range.{every_at, every_of, every_held, every_not, held_more}
-use Rattle.model.specs.Limits.{ACTIONS, OUTPUT_ENTRIES}
+use Rattle.model.specs.Limits.{STATES, ACTIONS, OUTPUT_ENTRIES}
 use Rattle.needs.specs.Tables.{entry, seen_in}
-use Rattle.needs.specs.Classes.{Missed, Led}
-use Rattle.needs.specs.Starts.{Begun, Began}
+use Rattle.needs.specs.Classes.{Led}
 use Rattle.needs.specs.Own.{Owned, Listing, output_in, seen_by, output_slot, no_class}
-use Rattle.needs.proofs.Starting.{slot_same, begun_missed}
+use Rattle.needs.specs.Laws.{SameBy, seen_at, seen_of}
 
 -- ---- the list is filled
 module _ {owners : List ℕ} {u : ℕ} {list : List ℕ} where
@@ -77,50 +76,21 @@ above_none {s} n = let l : 0 ≤ s = omega arith in ⊎_elim (λ (q : 0 ≡ s). 
 
 -- ---- what two states show alike
 module _ (list : List ℕ) (n : ℕ) (outputs : List ℕ) (actions : ℕ) where
-  abbrev pub SameBy : ℕ → ℕ → ℕ → Bool
-  SameBy t s i = eqb (output_in actions outputs t (entry list i)) (output_in actions outputs s (entry list i))
-
-  pub seen_at : (t s : ℕ) → seen_by list n outputs actions t s ≡ true → (i : ℕ) → i < n →
-      output_in actions outputs t (entry list i) ≡ output_in actions outputs s (entry list i)
-  unfolding seen_by
-  seen_at t s h i l = eqb-true _ _ (every_at n (SameBy t s) h i l)
-
-  seen_of : (t s : ℕ) → ((i : ℕ) → i < n → output_in actions outputs t (entry list i) ≡ output_in actions outputs s (entry list i)) →
-      seen_by list n outputs actions t s ≡ true
-  unfolding seen_by
-  seen_of t s h = every_of n (SameBy t s) (λ i l. eq-eqb _ _ (h i l))
-
-  pub seen_joined : (r t s : ℕ) → seen_by list n outputs actions r t ≡ true → seen_by list n outputs actions t s ≡ true →
-      seen_by list n outputs actions r s ≡ true
-  seen_joined r t s p q = seen_of r s (λ i l. seen_at r t p i l ∙ seen_at t s q i l)
-
   module _ (t s : ℕ) where
     pub seen_apart : {i a x y : ℕ} → i < n → a ≡ entry list i → x ≡ output_in actions outputs t a → y ≡ output_in actions outputs s a → (x ≡ y → ⊥) →
         false ≡ seen_by list n outputs actions t s
     unfolding seen_by
     seen_apart {i} l ea ex ey k =
-        sym (every_not n (SameBy t s) i l (ne_eqb _ _ (λ e. k (ex ∙ ap (output_in actions outputs t) ea ∙ e ∙ sym (ey ∙ ap (output_in actions outputs s) ea)))))
+        sym (every_not n (SameBy list n outputs actions t s) i l (ne_eqb _ _ (λ e. k (ex ∙ ap (output_in actions outputs t) ea ∙ e ∙ sym (ey ∙ ap (output_in actions outputs s) ea)))))
 
-    pub seen_more : {i a x y : ℕ} → Held i (SameBy t s) → a ≡ entry list i → x ≡ output_in actions outputs t a → y ≡ output_in actions outputs s a → x ≡ y →
-        Held (i + 1) (SameBy t s)
+    pub seen_more : {i a x y : ℕ} → Held i (SameBy list n outputs actions t s) → a ≡ entry list i → x ≡ output_in actions outputs t a → y ≡ output_in actions outputs s a → x ≡ y →
+        Held (i + 1) (SameBy list n outputs actions t s)
     seen_more {i} h ea ex ey e =
-        held_more (SameBy t s) i h (eq-eqb _ _ (sym (ex ∙ ap (output_in actions outputs t) ea) ∙ e ∙ ey ∙ ap (output_in actions outputs s) ea))
+        held_more (SameBy list n outputs actions t s) i h (eq-eqb _ _ (sym (ex ∙ ap (output_in actions outputs t) ea) ∙ e ∙ ey ∙ ap (output_in actions outputs s) ea))
 
-    pub seen_all : {i : ℕ} → n ≤ i → Held i (SameBy t s) → true ≡ seen_by list n outputs actions t s
+    pub seen_all : {i : ℕ} → n ≤ i → Held i (SameBy list n outputs actions t s) → true ≡ seen_by list n outputs actions t s
     unfolding seen_by
-    seen_all l h = sym (every_held n (SameBy t s) l h)
-
-  pub output_slot_same : (t s : ℕ) → seen_by list n outputs actions t s ≡ true →
-      output_slot list n outputs actions t ≡ output_slot list n outputs actions s
-  output_slot_same t s h = slot_same n _ _ (seen_at t s h)
-
-  pub seen_missed : {inside : ℕ → Bool} {starts starts' : List ℕ} {s k r : ℕ} →
-      Begun inside (seen_by list n outputs actions) no_class (output_slot list n outputs actions) starts s →
-      both (inside 0) (seen_by list n outputs actions 0 s) ≡ false → k ≡ output_slot list n outputs actions s → Began starts starts' k s r →
-      Missed inside (seen_by list n outputs actions) s r
-  seen_missed {inside} {s = s} h e ek b =
-      begun_missed inside (seen_by list n outputs actions) no_class (output_slot list n outputs actions) h
-      seen_joined (λ t q. refl) (λ t q. output_slot_same t s q) refl e ek b
+    seen_all l h = sym (every_held n (SameBy list n outputs actions t s) l h)
 
 -- ---- the actions listed are the box's
 module _ (outputs : List ℕ) {owners : List ℕ} {actions u : ℕ} {list : List ℕ} {n : ℕ} (h : Owned owners actions u list n) where

@@ -23,7 +23,8 @@ use Rattle.needs.specs.Classes.{lowest, agrees, unchanged, Below, Led}
 use Rattle.needs.specs.Again.{Befores, Touched, Quiet}
 use Rattle.needs.specs.Rounds.{Known, AtRound, Refined}
 use Rattle.needs.proofs.Classes.{lowest_le, lowest_least, inside_next, round_first, round_below, round_more, round_last}
-use Rattle.needs.proofs.Agreeing.{agrees_of, led_below}
+use Rattle.needs.proofs.Agreeing.{led_below}
+use Rattle.needs.specs.Laws.{agrees_of}
 use Rattle.needs.proofs.Looking.{one_of, quiet_none, quiet_next}
 use Rattle.needs.proofs.Owning.{above_none}
 

@@ -20,7 +20,6 @@ use Rattle.needs.specs.Tables.{step_in, entry, Steps}
 use Rattle.needs.specs.Classes.{lowest, agrees, Missed, Below}
 use Rattle.needs.specs.Starts.{SLOTS, slot_of, next_slot, Begun, Began}
 use Rattle.needs.proofs.Classes.{lowest_le, lowest_holds}
-use Rattle.needs.proofs.Agreeing.{agrees_now, agrees_after, agrees_joined}
 use Rattle.needs.proofs.Looking.{one_of}
 
 -- ---- small numbers
@@ -42,16 +41,6 @@ slot_bound f i e = rw e (slot_small i f)
 
 pub slot_all : (n : ℕ) (f : ℕ → ℕ) {i k : ℕ} → k ≡ slot_of i f → i ≤ n → n ≤ i → (k ≡ slot_of n f) × (k < SLOTS)
 slot_all n f {i} e l m = let q : i ≡ n = omega arith in (e ∙ ap (λ x. slot_of x f) q, slot_bound f i e)
-
-pub slot_same : (n : ℕ) (f g : ℕ → ℕ) → ((i : ℕ) → i < n → f i ≡ g i) → slot_of n f ≡ slot_of n g
-unfolding slot_of
-slot_same zero f g h = refl
-slot_same (suc n) f g h = rw (slot_same n f g (λ i l. h i (omega arith)), h n (omega arith))
-
--- states that agree share theirs
-pub next_slot_same : (actions : ℕ) (next c : List ℕ) (t s : ℕ) → agrees (step_in actions next) actions (entry c) t s ≡ true →
-    next_slot actions next c t ≡ next_slot actions next c s
-next_slot_same actions next c t s h = slot_same actions _ _ (λ a l. agrees_after (step_in actions next) actions (entry c) t s a l h)
 
 -- ---- the starts
 pub began_there : {starts : List ℕ} {slot s x : ℕ} → length starts ≡ SLOTS → x ≡ entry starts slot → x < s → Began starts starts slot s x
@@ -127,17 +116,6 @@ module _ (inside : ℕ → Bool) (E : ℕ → ℕ → Bool) (old slot : ℕ → 
             (λ (q : j ≡ m). subst (λ y. both (inside y) (E y s) ≡ false) (sym q)
             (by_test (both (inside m) (E m s)) (λ e. absurd (alone m (omega arith) (none m (omega arith)) e)) (λ e. e)))
             (below_suc p)
-
--- ---- in a round
-module _ (actions : ℕ) (next c : List ℕ) where
-  pub next_missed : {inside : ℕ → Bool} {starts starts' : List ℕ} {s x k r : ℕ} →
-      Begun inside (agrees (step_in actions next) actions (entry c)) (entry c) (next_slot actions next c) starts s → x ≡ entry c s →
-      both (inside x) (agrees (step_in actions next) actions (entry c) x s) ≡ false → k ≡ next_slot actions next c s → Began starts starts' k s r →
-      Missed inside (agrees (step_in actions next) actions (entry c)) s r
-  next_missed {inside} {s = s} h ex n ek b =
-      begun_missed inside (agrees (step_in actions next) actions (entry c)) (entry c) (next_slot actions next c) h
-      (agrees_joined (step_in actions next) actions (entry c)) (λ t e. agrees_now (step_in actions next) actions (entry c) t s e)
-      (λ t e. next_slot_same actions next c t s e) ex n ek b
 
 -- a class number other than the state is below it
 pub below_other : {states : ℕ} {c : List ℕ} {s x : ℕ} → Below states c → s < states → entry c s ≢ s → x ≡ entry c s → x < s

@@ -8,3 +8,5 @@ pub mod Demand
 pub mod Again
 pub mod Starts
 pub mod Own
+pub mod Sorts
+pub mod Laws

@@ -3,61 +3,54 @@ ghost use Rattle.std.specs.Prelude.{◌≡◌, ◌+◌, ◌*◌, ◌<◌, ◌≤
 ghost use Rattle.noninterference.specs.Rounds.{arrows_upto};
 ghost use Rattle.model.specs.Limits.{BOXES, ARROWS, PAIRS, LIST_ENTRIES};
 ghost use Rattle.reach.specs.Set.{flag_at};
-ghost use Rattle.needs.specs.Tables.{step_in, entry, Steps};
+ghost use Rattle.needs.specs.Tables.{step_in, entry};
 ghost use Rattle.needs.specs.Marks.{Owners, movers, sources, Marked, wanted_in};
 ghost use Rattle.needs.specs.Listed.{Written};
 
-use crate::numbers::{narrow16, step};
+use crate::walk::Walk;
 use model::{ACTIONS, ARROWS, BOXES, STATES};
 
 // Marks, for target u, the boxes whose actions move s to another class.
 pub(crate) fn mark_state(
-    next: &[u16],
+    walk: &Walk<'_>,
     owners: &[u8; ACTIONS],
     c: &[u8; STATES],
-    states: usize,
-    actions: usize,
     s: usize,
     u: usize,
     table: &mut [bool; ARROWS],
 )
-    requires steps { Steps states actions next.now }
-    requires owners { Owners actions owners.now }
-    requires s_lt_states { (s < states) × (u < BOXES) }
-    requires table_len { length table.old ≡ ARROWS }
-    ensures { Marked table.old table.new u (movers owners.now (step_in actions next.now) actions (entry c.now) s) }
+    requires owners { Owners walk.now.actions owners.now }
+    requires bounds { (s < walk.now.states) × (u < BOXES) }
+    requires table_long { length table.old ≡ ARROWS }
+    ensures { Marked table.old table.new u (movers owners.now (step_in walk.now.actions walk.now.next.now) walk.now.actions (entry c.now) s) }
 {
-    'actions: for a in 0..actions {
-        let t = step(next, states, actions, s, a);
+    'actions: for a in 0..walk.actions {
+        let t = walk.step(s, a);
         if c[t] == c[s] {
             continue 'actions;
         }
-        let v = model::owner(owners, a);
+        let v = usize::from(owners[a]);
         table[v * BOXES + u] = true;
     }
 }
 
 // Marks, for target u, the boxes whose actions move a state that counts to another class.
 pub(crate) fn mark(
-    next: &[u16],
+    walk: &Walk<'_>,
     owners: &[u8; ACTIONS],
     inside: &[bool; STATES],
     c: &[u8; STATES],
-    states: usize,
-    actions: usize,
     u: usize,
     table: &mut [bool; ARROWS],
 )
-    requires steps { Steps states actions next.now }
-    requires owners { Owners actions owners.now }
+    requires owners { Owners walk.now.actions owners.now }
     requires u_bound { u < BOXES }
-    requires table_len { length table.old ≡ ARROWS }
-    ensures { Marked table.old table.new u (sources owners.now (step_in actions next.now) actions (entry c.now) (flag_at inside.now) states) }
+    requires table_long { length table.old ≡ ARROWS }
+    ensures { Marked table.old table.new u (sources owners.now (step_in walk.now.actions walk.now.next.now) walk.now.actions (entry c.now) (flag_at inside.now) walk.now.states) }
 {
-    'states: for s in 0..states {
+    'states: for s in 0..walk.states {
         if inside[s] {
-            mark_state(next, owners, c, states, actions, s, u, table);
-            continue 'states;
+            mark_state(walk, owners, c, s, u, table);
         }
     }
 }
@@ -67,10 +60,7 @@ pub(crate) fn wanted(table: &[bool; ARROWS], v: usize, u: usize) -> bool
     requires { (v < BOXES) × (u < BOXES) }
     ensures { result ≡ wanted_in table.now v u }
 {
-    if v == u {
-        return false;
-    }
-    table[v * BOXES + u]
+    v != u && table[v * BOXES + u]
 }
 
 // Writes the n-th pair.
@@ -78,8 +68,8 @@ pub(crate) fn put(list: &mut [u16], n: usize, v: usize, u: usize)
     requires { (length list.old ≡ LIST_ENTRIES) × (n < PAIRS) × (v < BOXES) × (u < BOXES) }
     ensures { list.new ≡ set (set list.old (2 * n) v) (2 * n + 1) u }
 {
-    list[2 * n] = narrow16(v);
-    list[2 * n + 1] = narrow16(u);
+    list[2 * n] = v as u16;
+    list[2 * n + 1] = u as u16;
 }
 
 // Writes the arrows from v behind the n pairs that stand there.
@@ -99,7 +89,6 @@ pub(crate) fn write_row(
         if wanted(table, v, u) {
             put(list, n, v, u);
             n += 1;
-            continue 'targets;
         }
     }
     n
@@ -116,12 +105,4 @@ pub(crate) fn write_list(table: &[bool; ARROWS], boxes: usize, list: &mut [u16])
         n = write_row(table, boxes, v, list, n);
     }
     n
-}
-
-pub(crate) fn clear(list: &mut [u16])
-    ensures { list.new ≡ replicate (length list.old) 0 }
-{
-    'entries: for i in 0..list.len() {
-        list[i] = 0;
-    }
 }

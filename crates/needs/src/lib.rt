@@ -3,10 +3,11 @@
 
 mod arrows;
 mod changes;
-mod numbers;
+mod likeness;
 mod outputs;
 mod rounds;
 mod starts;
+mod walk;
 
 ghost use Rattle.std.specs.Prelude.{◌≡◌, replicate};
 ghost use Rattle.noninterference.specs.Rounds.{needed_list};
@@ -18,93 +19,85 @@ ghost use Rattle.needs.specs.Again.{Befores};
 ghost use Rattle.needs.specs.Rounds.{Known, Refined};
 ghost use Rattle.needs.specs.Marks.{SortedOut};
 ghost use Rattle.needs.specs.Listed.{padded};
-ghost use Rattle.needs.specs.Answered.{found_in, refused_with, needed_of, list_of};
+ghost use Rattle.needs.specs.Answered.{found_in, needed_of, list_of};
 
-use crate::arrows::{clear, mark, write_list};
+use crate::arrows::{mark, write_list};
 use crate::changes::{again, befores};
-use crate::outputs::{first_round, observes, own_actions};
-use crate::rounds::{one_class, round};
-use model::{ARROWS, BOXES, LIST_ENTRIES, Machine, NEXT_ENTRIES, OUTPUT_ENTRIES, STATES};
+use crate::outputs::{Outputs, first_round, observes, own_actions};
+use crate::rounds::{Classes, one_class, round};
+use crate::walk::Walk;
+use model::{
+    ARROWS, BOXES, LIST_ENTRIES, Machine, NEXT_ENTRIES, OUTPUT_ENTRIES, Refusal, Refused, STATES,
+};
 use reach::Set;
 
 // A flag for each two states.
 pub(crate) const STATE_PAIRS: usize = STATES * STATES;
 
-// What the call found: how many pairs stand on the list, and how many states are reachable.
-#[derive(Clone, Copy)]
-pub enum Outcome {
-    Found { count: usize, reach: usize },
-    Refused { number: usize, line: usize },
-}
-
-// The depths are 0 beyond the last box, and where the call is refused.
+// What the call found: how many pairs stand on the list, how many states are reachable, and the depths, 0 beyond the last box.
 #[derive(Clone, Copy)]
 pub struct Needs {
-    pub outcome: Outcome,
+    pub count: usize,
+    pub reach: usize,
     pub depths: [usize; BOXES],
+}
+
+// A machine that keeps to the rules, with its tables.
+#[derive(Clone, Copy)]
+struct Tables<'a> {
+    machine: &'a Machine,
+    next: &'a [u16],
+    outputs: &'a [u16],
+    ghost fitting: { Fitting machine.now next.now outputs.now },
 }
 
 // The classes that no further round splits, and the rounds that split something.
 #[derive(Clone, Copy)]
 struct Refinement {
-    classes: [u8; STATES],
+    numbers: [u8; STATES],
     rounds: usize,
 }
 
 fn refine(
-    machine: Machine,
-    next: &[u16],
-    outputs: &[u16],
+    tables: &Tables<'_>,
     inside: &[bool; STATES],
     before: &[bool; STATE_PAIRS],
     u: usize,
 ) -> Refinement
-    requires fitting { Fitting machine next.now outputs.now }
-    requires known { Known (machine_of machine next.now outputs.now) (flag_at inside.now) }
-    requires befores { Befores machine.sizes.states machine.sizes.actions next.now before.now }
-    ensures { Refined (machine_of machine next.now outputs.now) (flag_at inside.now) u (entry result.classes) result.rounds }
+    requires known { Known (machine_of tables.now.machine.now tables.now.next.now tables.now.outputs.now) (flag_at inside.now) }
+    requires befores { Befores tables.now.machine.now.sizes.states tables.now.machine.now.sizes.actions tables.now.next.now before.now }
+    ensures { Refined (machine_of tables.now.machine.now tables.now.next.now tables.now.outputs.now) (flag_at inside.now) u (entry result.numbers) result.rounds }
 {
-    let owners = machine.owners;
-    let own = own_actions(&owners, machine.sizes.actions, u);
-    let list = own.list;
-    let mut classes = first_round(
-        outputs,
-        &list,
-        own.count,
-        inside,
-        machine.sizes.states,
-        machine.sizes.actions,
-    );
-    if one_class(inside, &classes, machine.sizes.states) {
-        return Refinement { classes, rounds: 0 };
+    let states = tables.machine.sizes.states;
+    let actions = tables.machine.sizes.actions;
+    let own = own_actions(tables.machine, u);
+    let outputs = Outputs {
+        table: tables.outputs,
+        actions,
+        own,
+    };
+    let mut numbers = first_round(&outputs, inside, states);
+    if one_class(inside, &numbers, states) {
+        return Refinement { numbers, rounds: 0 };
     }
+    let walk = Walk {
+        next: tables.next,
+        states,
+        actions,
+    };
     let mut marks = [true; STATES];
     let mut rounds = 0;
     'rounds: loop {
-        let outcome = round(
-            next,
-            inside,
-            &classes,
-            &marks,
-            machine.sizes.states,
-            machine.sizes.actions,
-        );
+        let classes = Classes {
+            walk,
+            numbers: &numbers,
+        };
+        let outcome = round(&classes, inside, &marks);
         if outcome.same {
-            return Refinement { classes, rounds };
+            return Refinement { numbers, rounds };
         }
-        let finer = outcome.classes;
-        let moved = outcome.moved;
-        marks = again(
-            before,
-            next,
-            &classes,
-            &finer,
-            &moved,
-            outcome.count,
-            machine.sizes.states,
-            machine.sizes.actions,
-        );
-        classes = finer;
+        marks = again(before, &classes, &outcome.numbers, &outcome.moved);
+        numbers = outcome.numbers;
         rounds += 1;
     }
 }
@@ -117,31 +110,31 @@ struct Sorted {
 }
 
 // A box without actions takes no round: it tells nothing apart.
-fn sort(machine: Machine, next: &[u16], outputs: &[u16], inside: &[bool; STATES]) -> Sorted
-    requires fitting { Fitting machine next.now outputs.now }
-    requires known { Known (machine_of machine next.now outputs.now) (flag_at inside.now) }
-    ensures { SortedOut (machine_of machine next.now outputs.now) (flag_at inside.now) result.table result.depths machine.sizes.boxes }
+fn sort(tables: &Tables<'_>, inside: &[bool; STATES]) -> Sorted
+    requires { Known (machine_of tables.now.machine.now tables.now.next.now tables.now.outputs.now) (flag_at inside.now) }
+    ensures { SortedOut (machine_of tables.now.machine.now tables.now.next.now tables.now.outputs.now) (flag_at inside.now) result.table result.depths tables.now.machine.now.sizes.boxes }
 {
-    let owners = machine.owners;
+    let machine = tables.machine;
+    let walk = Walk {
+        next: tables.next,
+        states: machine.sizes.states,
+        actions: machine.sizes.actions,
+    };
     let mut table = [false; ARROWS];
     let mut depths = [0usize; BOXES];
-    let before = befores(next, machine.sizes.states, machine.sizes.actions);
+    let before = befores(&walk);
     'boxes: for u in 0..machine.sizes.boxes {
-        if observes(&owners, machine.sizes.actions, u) {
-            let refinement = refine(machine, next, outputs, inside, &before, u);
+        if observes(machine, u) {
+            let refinement = refine(tables, inside, &before, u);
             depths[u] = refinement.rounds;
-            let classes = refinement.classes;
             mark(
-                next,
-                &owners,
+                &walk,
+                &machine.owners,
                 inside,
-                &classes,
-                machine.sizes.states,
-                machine.sizes.actions,
+                &refinement.numbers,
                 u,
                 &mut table,
             );
-            continue 'boxes;
         }
     }
     Sorted { table, depths }
@@ -151,63 +144,50 @@ fn sort(machine: Machine, next: &[u16], outputs: &[u16], inside: &[bool; STATES]
 fn flags_of(reached: Set) -> [bool; STATES]
     ensures { result ≡ listed reached }
 {
+    // `array::from_fn` was tried, and its proof didn't close: its fact for one index doesn't say what the closure holds
     let mut flags = [false; STATES];
     'states: for s in 0..STATES {
-        flags[s] = reach::contains(reached, s);
+        flags[s] = reached.contains(s);
     }
     flags
 }
 
 // What is found in a machine that keeps to the rules.
-fn found(machine: Machine, next: &[u16], outputs: &[u16], reached: Set, list: &mut [u16]) -> Needs
-    requires fitting { Fitting machine next.now outputs.now }
-    requires known { Known (machine_of machine next.now outputs.now) (has reached) }
-    requires list_value { list.old ≡ replicate LIST_ENTRIES 0 }
-    ensures value { result ≡ found_in (machine_of machine next.now outputs.now) }
-    ensures list_after { list.new ≡ padded (needed_list (machine_of machine next.now outputs.now)) }
+fn found(tables: &Tables<'_>, reached: &Set, list: &mut [u16]) -> Needs
+    requires known { Known (machine_of tables.now.machine.now tables.now.next.now tables.now.outputs.now) (has reached.now) }
+    requires zeros { list.old ≡ replicate LIST_ENTRIES 0 }
+    ensures value { result ≡ found_in (machine_of tables.now.machine.now tables.now.next.now tables.now.outputs.now) }
+    ensures list_after { list.new ≡ padded (needed_list (machine_of tables.now.machine.now tables.now.next.now tables.now.outputs.now)) }
 {
-    let inside = flags_of(reached);
-    let sorted = sort(machine, next, outputs, &inside);
-    let table = sorted.table;
-    let depths = sorted.depths;
-    let count = write_list(&table, machine.sizes.boxes, list);
-    let reach = reach::count(reached);
+    let inside = flags_of(*reached);
+    let sorted = sort(tables, &inside);
     Needs {
-        outcome: Outcome::Found { count, reach },
-        depths,
+        count: write_list(&sorted.table, tables.machine.sizes.boxes, list),
+        reach: reached.count(),
+        depths: sorted.depths,
     }
 }
 
-fn refused(number: usize) -> Needs
-    ensures { result ≡ refused_with number }
-{
-    Needs {
-        outcome: Outcome::Refused { number, line: 0 },
-        depths: [0usize; BOXES],
-    }
-}
-
-// The needed arrows and the depths of a machine. Refusals: 10 for a table or a list of another length, which leaves the list untouched;
-// 12 for a machine or a next state that breaks the rules, which zeroes it.
-pub fn needed(machine: Machine, next: &[u16], outputs: &[u16], list: &mut [u16]) -> Needs
+// The needed arrows and the depths of a machine. Refused: a table or a list of another length, which leaves the list untouched;
+// a machine or a next state that breaks the rules, which zeroes it.
+pub fn needed(
+    machine: Machine,
+    next: &[u16],
+    outputs: &[u16],
+    list: &mut [u16],
+) -> Result<Needs, Refused>
     ensures value { result ≡ needed_of machine next.now outputs.now list.old }
     ensures list_after { list.new ≡ list_of machine next.now outputs.now list.old }
 {
-    if outputs.len() != OUTPUT_ENTRIES {
-        return refused(10);
-    }
-    if list.len() != LIST_ENTRIES {
-        return refused(10);
-    }
-    if next.len() != NEXT_ENTRIES {
-        return refused(10);
-    }
-    clear(list);
-    let answer = reach::reached(machine, next);
-    let outcome = answer.outcome;
-    let reach::Outcome::Found = outcome else {
-        return refused(12);
+    Refusal::Length.unless(outputs.len() == OUTPUT_ENTRIES)?;
+    Refusal::Length.unless(list.len() == LIST_ENTRIES)?;
+    Refusal::Length.unless(next.len() == NEXT_ENTRIES)?;
+    list.fill(0);
+    let reached = reach::reached(machine, next)?;
+    let tables = Tables {
+        machine: &machine,
+        next,
+        outputs,
     };
-    let reached = answer.set;
-    found(machine, next, outputs, reached, list)
+    Ok(found(&tables, &reached, list))
 }

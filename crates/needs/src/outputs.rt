@@ -1,16 +1,19 @@
 // Classes by what a box's actions output, before any round.
-ghost use Rattle.std.specs.Prelude.{◌≡◌, ◌+◌, ◌<◌, ◌≤◌, eqb, length, get_or};
-ghost use Rattle.laws.specs.Choice.{both};
+ghost use Rattle.std.specs.Prelude.{◌≡◌, ◌<◌, ◌≤◌, eqb, get_or};
 ghost use Rattle.laws.specs.Range.{some};
-ghost use Rattle.model.specs.Limits.{STATES, ACTIONS, OUTPUT_ENTRIES};
+ghost use Rattle.model.specs.Limits.{STATES, ACTIONS};
+ghost use Rattle.model.specs.Denoted.{owner_at};
 ghost use Rattle.reach.specs.Set.{flag_at};
-ghost use Rattle.needs.specs.Classes.{lowest, Missed, Led};
-ghost use Rattle.needs.specs.Starts.{SLOTS, Begun};
+ghost use Rattle.needs.specs.Classes.{Led};
 ghost use Rattle.needs.specs.Own.{Owned, Listing, output_in, seen_by, output_slot, no_class};
+ghost use Rattle.needs.specs.Laws.{seen_sorts};
 
-use crate::numbers::{NO_STATE, narrow, wide, wide16};
-use crate::starts::{SLOTS, start_of};
-use model::{ACTIONS, STATES};
+use crate::likeness::{Likeness, first_alike};
+use crate::starts::SLOTS;
+use model::{ACTIONS, Machine, STATES};
+
+// The number of no state.
+pub(crate) const NO_STATE: u8 = STATES as u8;
 
 // The actions of a box, the first `count` of the list.
 #[derive(Clone, Copy)]
@@ -19,16 +22,25 @@ pub(crate) struct Own {
     pub(crate) count: usize,
 }
 
+// The outputs of a box's actions.
+#[derive(Clone, Copy)]
+pub(crate) struct Outputs<'a> {
+    pub(crate) table: &'a [u16],
+    pub(crate) actions: usize,
+    pub(crate) own: Own,
+    pub(crate) ghost listing: { Listing table.now actions own.list own.count },
+}
+
 // The actions of u.
-pub(crate) fn own_actions(owners: &[u8; ACTIONS], actions: usize, u: usize) -> Own
-    requires { actions ≤ ACTIONS }
-    ensures { Owned owners.now actions u result.list result.count }
+pub(crate) fn own_actions(machine: &Machine, u: usize) -> Own
+    requires { machine.now.sizes.actions ≤ ACTIONS }
+    ensures { Owned machine.now.owners machine.now.sizes.actions u result.list result.count }
 {
     let mut list = [0u8; ACTIONS];
     let mut count = 0;
-    'actions: for a in 0..actions {
-        if model::owner(owners, a) == u {
-            list[count] = narrow(a);
+    'actions: for a in 0..machine.sizes.actions {
+        if machine.owner(a) == u {
+            list[count] = a as u8;
             count += 1;
             continue 'actions;
         }
@@ -36,166 +48,71 @@ pub(crate) fn own_actions(owners: &[u8; ACTIONS], actions: usize, u: usize) -> O
     Own { list, count }
 }
 
-// The output of an action in a state.
-pub(crate) fn output(outputs: &[u16], actions: usize, s: usize, a: usize) -> usize
-    requires { (length outputs.now ≡ OUTPUT_ENTRIES) × (actions ≤ ACTIONS) × (s < STATES) × (a < actions) }
-    ensures { (result ≡ output_in actions outputs.now s a) × (result < 65536) }
-{
-    wide16(outputs[s * actions + a])
+impl<'a> Outputs<'a> {
+    // The output of the i-th of them in a state.
+    fn output(&self, s: usize, i: usize) -> usize
+        requires { (s < STATES) × (i < self.now.own.count) }
+        ensures value { result ≡ output_in self.now.actions self.now.table.now s (get_or self.now.own.list i 0) }
+        ensures small { result < 65536 }
+    {
+        usize::from(self.table[s * self.actions + usize::from(self.own.list[i])])
+    }
 }
 
-// Whether every output of the actions listed is the same in t and s.
-pub(crate) fn seen_alike(
-    outputs: &[u16],
-    own: &[u8; ACTIONS],
-    count: usize,
-    actions: usize,
-    t: usize,
-    s: usize,
-) -> bool
-    requires listing { Listing outputs.now actions own.now count }
-    requires t_bound { (t < STATES) × (s < STATES) }
-    ensures { result ≡ seen_by own.now count outputs.now actions t s }
-{
-    'actions: for i in 0..count {
-        let a = wide(own[i]);
-        let x = output(outputs, actions, t, a);
-        let y = output(outputs, actions, s, a);
-        if x != y {
-            return false;
+// States are alike where each of the actions outputs the same.
+impl<'a> Likeness for Outputs<'a> {
+    ghost alike = { λ o. seen_by o.own.list o.own.count o.table.now o.actions };
+
+    ghost old = { λ _. no_class };
+
+    ghost slot = { λ o. output_slot o.own.list o.own.count o.table.now o.actions };
+
+    ghost states = { λ _. STATES };
+
+    ghost laws = { λ o. seen_sorts o.own.list o.own.count o.table.now o.actions };
+
+    fn alike(&self, t: usize, s: usize) -> bool {
+        'actions: for i in 0..self.own.count {
+            if self.output(t, i) != self.output(s, i) {
+                return false;
+            }
         }
+        true
     }
-    true
-}
 
-// Whether t counts and has the outputs of s.
-pub(crate) fn joins_first(
-    outputs: &[u16],
-    own: &[u8; ACTIONS],
-    count: usize,
-    inside: &[bool; STATES],
-    actions: usize,
-    t: usize,
-    s: usize,
-) -> bool
-    requires listing { Listing outputs.now actions own.now count }
-    requires t_bound { (t < STATES) × (s < STATES) }
-    ensures { result ≡ both (flag_at inside.now t) (seen_by own.now count outputs.now actions t s) }
-{
-    if inside[t] {
-        return seen_alike(outputs, own, count, actions, t, s);
-    }
-    false
-}
-
-// The small number of s by the outputs of the actions listed.
-pub(crate) fn output_slot(
-    outputs: &[u16],
-    own: &[u8; ACTIONS],
-    count: usize,
-    actions: usize,
-    s: usize,
-) -> usize
-    requires listing { Listing outputs.now actions own.now count }
-    requires s_bound { s < STATES }
-    ensures { (result ≡ output_slot own.now count outputs.now actions s) × (result < SLOTS) }
-{
-    let mut slot = 0;
-    'actions: for i in 0..count {
-        let a = wide(own[i]);
-        let x = output(outputs, actions, s, a);
-        slot = (5 * slot + x) % SLOTS;
-    }
-    slot
-}
-
-// The first state that counts and has the outputs of s, from a start on before which it is not.
-pub(crate) fn seen_from(
-    outputs: &[u16],
-    own: &[u8; ACTIONS],
-    count: usize,
-    inside: &[bool; STATES],
-    d: &[u8; STATES],
-    actions: usize,
-    s: usize,
-    start: usize,
-) -> usize
-    requires listing { Listing outputs.now actions own.now count }
-    requires led { Led (flag_at inside.now) (seen_by own.now count outputs.now actions) d.now s }
-    requires missed { Missed (flag_at inside.now) (seen_by own.now count outputs.now actions) s start }
-    requires start_le_s { (start ≤ s) × (s < STATES) }
-    ensures value { result ≡ lowest (flag_at inside.now) (seen_by own.now count outputs.now actions) s }
-    ensures upper_bound { result ≤ s }
-{
-    'earlier: for t in start..s {
-        if wide(d[t]) != t {
-            continue 'earlier;
+    fn slot(&self, s: usize) -> usize {
+        let mut slot = 0;
+        'actions: for i in 0..self.own.count {
+            slot = (5 * slot + self.output(s, i)) % SLOTS;
         }
-        if joins_first(outputs, own, count, inside, actions, t, s) {
-            return t;
-        }
+        slot
     }
-    s
 }
 
-// The first state that counts and has the outputs of s: state 0, or it is looked for from the start of its small number on.
-pub(crate) fn first_seen(
-    outputs: &[u16],
-    own: &[u8; ACTIONS],
-    count: usize,
-    inside: &[bool; STATES],
-    d: &[u8; STATES],
-    starts: &mut [u8; SLOTS],
-    actions: usize,
-    s: usize,
-) -> usize
-    requires listing { Listing outputs.now actions own.now count }
-    requires led { Led (flag_at inside.now) (seen_by own.now count outputs.now actions) d.now s }
-    requires begun { Begun (flag_at inside.now) (seen_by own.now count outputs.now actions) no_class (output_slot own.now count outputs.now actions) starts.old s }
-    requires s_bound { s < STATES }
-    ensures value { result ≡ lowest (flag_at inside.now) (seen_by own.now count outputs.now actions) s }
-    ensures upper_bound { result ≤ s }
-    ensures begun_2 { Begun (flag_at inside.now) (seen_by own.now count outputs.now actions) no_class (output_slot own.now count outputs.now actions) starts.new (s + 1) }
-{
-    if s == 0 {
-        return 0;
-    }
-    if joins_first(outputs, own, count, inside, actions, 0, s) {
-        return 0;
-    }
-    let slot = output_slot(outputs, own, count, actions, s);
-    let start = start_of(starts, slot, s);
-    seen_from(outputs, own, count, inside, d, actions, s, start)
-}
-
-// The classes by what the actions listed output.
+// The classes by what a box's actions output. State 0 is the first of the one class before.
 pub(crate) fn first_round(
-    outputs: &[u16],
-    own: &[u8; ACTIONS],
-    count: usize,
+    outputs: &Outputs<'_>,
     inside: &[bool; STATES],
     states: usize,
-    actions: usize,
 ) -> [u8; STATES]
-    requires listing { Listing outputs.now actions own.now count }
-    requires states_bound { states ≤ STATES }
-    ensures { Led (flag_at inside.now) (seen_by own.now count outputs.now actions) result states }
+    requires { states ≤ STATES }
+    ensures { Led (flag_at inside.now) (seen_by outputs.now.own.list outputs.now.own.count outputs.now.table.now outputs.now.actions) result states }
 {
     let mut d = [0u8; STATES];
     let mut starts = [NO_STATE; SLOTS];
-    'states: for s in 0..states {
-        let first = first_seen(outputs, own, count, inside, &d, &mut starts, actions, s);
-        d[s] = narrow(first);
+    'states: for s in 1..states {
+        let first = first_alike(outputs, inside, &d, &mut starts, 0, s);
+        d[s] = first as u8;
     }
     d
 }
 
 // Whether some action is u's.
-pub(crate) fn observes(owners: &[u8; ACTIONS], actions: usize, u: usize) -> bool
-    ensures { result ≡ some actions (λ a. eqb (get_or owners.now a 0) u) }
+pub(crate) fn observes(machine: &Machine, u: usize) -> bool
+    ensures { result ≡ some machine.now.sizes.actions (λ a. eqb (owner_at machine.now a) u) }
 {
-    'actions: for a in 0..actions {
-        if model::owner(owners, a) == u {
+    'actions: for a in 0..machine.sizes.actions {
+        if machine.owner(a) == u {
             return true;
         }
     }

@@ -20,7 +20,7 @@ use Rattle.purge.specs.Sets.{touches, marked, present}
 use Rattle.purge.specs.Purged.{names_actions, Askable, Added, kept_of, purge_result, written}
 use Rattle.model.specs.declared.Kind.{Kind}
 use Rattle.model.specs.declared.Kind.TheVariants.{Plain, Intransitive}
-use Rattle.purge.specs.declared.Answer.TheVariants.{Kept}
+use Rattle.std.specs.Prelude.{Ok}
 use Rattle.purge.proofs.Kept.{kept_plain, kept_intransitive}
 
 marked_length : (keep : ℕ → List ℕ → Bool) (r : List ℕ) → length (marked keep r) ≡ length r
@@ -60,7 +60,7 @@ module _ (m : Model) (position : ℕ) (run into : List ℕ) (target : ℕ) (h : 
   pub kept_written : (kind : Kind) (marks : List ℕ) {count : ℕ} {kept : List ℕ} → Added kind m.arrows into →
       marks ≡ marked (touches m.machine.owners into target) run → count ≡ length (present marks) →
       kept ≡ present marks ++ replicate (length marks - count) 255 →
-      purge_result (Kept count) kept ≡ written (kept_of m kind position run) (length run)
+      purge_result (Ok count) kept ≡ written (kept_of m kind position run) (length run)
   kept_written kind marks {count} {kept} added hm hc hk =
       let p : present marks ≡ kept_of m kind position run = ap present hm ∙ kept_is kind added in
       let l : length marks ≡ length run = ap length hm ∙ marked_length _ run in

@@ -1,5 +1,5 @@
 -- What the purge call answers, and what its buffer then holds.
-use Rattle.std.specs.Prelude.{◌≡◌, Bool, true, List, ◌++◌, ℕ, ◌-◌, ◌<◌, eqb, ltb, leb, length, get_or, replicate}
+use Rattle.std.specs.Prelude.{◌≡◌, Bool, true, List, ◌++◌, ℕ, ◌-◌, ◌<◌, eqb, ltb, leb, length, get_or, replicate, Result, Ok, Err}
 use Rattle.laws.specs.Choice.{both, choose}
 use Rattle.laws.specs.Range.{every}
 use Rattle.noninterference.specs.Purge as kinds
@@ -7,12 +7,13 @@ use Rattle.model.specs.Arrows.{leads}
 use Rattle.model.specs.Limits.{RUN_ACTIONS, BOXES}
 use Rattle.model.specs.Denoted.{kind_of, owner_at, policy_of}
 use Rattle.model.specs.Refused.{model_fits}
+use Rattle.model.specs.Refusal.{refused_as}
 use Rattle.model.specs.declared.Model.{Model}
+use Rattle.model.specs.declared.refusal.Refusal.TheVariants.{Length, Rules, Range}
+use Rattle.model.specs.declared.refusal.Refused.{Refused}
 use Rattle.laws.specs.Sets.{pack}
 use Rattle.model.specs.declared.Kind.{Kind}
 use Rattle.model.specs.declared.Kind.TheVariants.{Plain, Intransitive}
-use Rattle.purge.specs.declared.Answer.{Answer}
-use Rattle.purge.specs.declared.Answer.TheVariants.{Kept, Refused}
 
 -- each byte of the run names an action
 unfoldable pub names_actions : ℕ → List ℕ → Bool
@@ -39,32 +40,22 @@ unfoldable pub kept_of : Model → Kind → ℕ → List ℕ → List ℕ
 kept_of m kind position run = kinds.purge (kinds.keeps (kind_of kind) (owner_at m.machine) (policy_of m) position) run
 
 -- an answer, and the lent buffer after the call
-pub record Result : Type 0 where
-  pub answer : Answer
+pub record Purged : Type 0 where
+  pub answer : Result ℕ Refused
   pub kept : List ℕ
 
-abbrev pub purge_result : Answer → List ℕ → Result
+abbrev pub purge_result : Result ℕ Refused → List ℕ → Purged
 purge_result answer kept = record { answer = answer; kept = kept }
 
 -- the kept actions first, 255 after them, and their count
-abbrev pub written : List ℕ → ℕ → Result
-written xs n = purge_result (Kept (length xs)) (xs ++ replicate (n - length xs) 255)
+abbrev pub written : List ℕ → ℕ → Purged
+written xs n = purge_result (Ok (length xs)) (xs ++ replicate (n - length xs) 255)
 
--- 10, then 12, then 13, each with the buffer as it was
-unfoldable pub purged_of : Model → Kind → ℕ → List ℕ → List ℕ → Result
+-- the refusals, each with the buffer as it was
+unfoldable pub purged_of : Model → Kind → ℕ → List ℕ → List ℕ → Purged
 purged_of m kind position run kept =
     choose (eqb (length kept) (length run))
     (choose (model_fits m)
-    (choose (asked m position run) (written (kept_of m kind position run) (length run)) (purge_result (Refused 13 0) kept))
-    (purge_result (Refused 12 0) kept))
-    (purge_result (Refused 10 0) kept)
-
--- the numbers that an answer stands for: refusal, line, count
-pub record Listed : Type 0 where
-  pub number : ℕ
-  pub line : ℕ
-  pub count : ℕ
-
-abbrev pub listed : Answer → Listed
-listed (Kept n) = record { number = 0; line = 0; count = n }
-listed (Refused n l) = record { number = n; line = l; count = 0 }
+    (choose (asked m position run) (written (kept_of m kind position run) (length run)) (purge_result (Err (refused_as Range 0)) kept))
+    (purge_result (Err (refused_as Rules 0)) kept))
+    (purge_result (Err (refused_as Length 0)) kept)

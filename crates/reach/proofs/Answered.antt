@@ -8,10 +8,10 @@ use Prim.Native.Nat.{ℕ, zero, suc, ◌<◌, ◌≤◌}
 use native.Mathlib.Omega.{arith}
 use borrow.Author.Tests.{eq-eqb, ne_eqb, lt-ltb, ltb-true, ltb-false}
 use lib.Dec.{eqb, ltb}
-use lib.ListN.{length, replicate, get_or-replicate}
+use lib.ListN.{length}
 use Rattle.laws.specs.Choice.{both, either, choose}
 use Rattle.laws.specs.Range.{some}
-use Rattle.laws.proofs.Tests.{by_test, not_both, agree, both_of, both_true, both_no}
+use Rattle.laws.proofs.Tests.{by_test, not_both, agree, both_of, both_true}
 use Rattle.laws.proofs.Cells.{beyond}
 use Rattle.noninterference.specs.Machine.{Reachable}
 use Rattle.noninterference.specs.Reached.{reached_by, reached, Reach}
@@ -19,14 +19,16 @@ use Rattle.noninterference.proofs.Reached.{reach}
 use Rattle.model.specs.Limits.{STATES, NEXT_ENTRIES}
 use Rattle.model.specs.Denoted.{machine_of, next_at}
 use Rattle.model.specs.Refused.{machine_table_fits}
+use Rattle.model.specs.Refusal.{refused_as}
 use Rattle.model.specs.declared.Machine.{Machine}
+use Rattle.model.specs.declared.refusal.Refusal.TheVariants.{Length, Rules}
+use Rattle.std.specs.Prelude.{Ok, Err}
 use Rattle.model.proofs.Good.{table_good}
 use Rattle.model.proofs.Denoted.{closed}
 use Rattle.reach.specs.Set.{listed, flag_at}
 use Rattle.reach.specs.Explored.{moving, Complete}
-use Rattle.reach.specs.Answered.{outcome_of, flags_of}
+use Rattle.reach.specs.Answered.{flags_of, set_of, answer_of}
 use Rattle.reach.specs.declared.Set.{Set}
-use Rattle.reach.specs.declared.Outcome.TheVariants.{Found, Refused}
 use Rattle.laws.proofs.Tables.{tabulated, tabulate_at, length_tabulate}
 
 -- no two sets list the same flags
@@ -39,30 +41,19 @@ length_flags m next = length_tabulate STATES _
 
 module _ (m : Machine) (next : List ℕ) where
   -- the length is wrong; it is right and the rules are broken; neither
-  pub outcome_length : (length next ≡ NEXT_ENTRIES → ⊥) → Refused 10 0 ≡ outcome_of m next
-  unfolding outcome_of choose
-  outcome_length n = rw (ne_eqb _ _ n)
+  pub refused_length : (length next ≡ NEXT_ENTRIES → ⊥) → Err (refused_as Length 0) ≡ answer_of m next
+  unfolding answer_of choose
+  refused_length n = rw (ne_eqb _ _ n)
 
-  pub outcome_rules : length next ≡ NEXT_ENTRIES → machine_table_fits m next ≡ false → Refused 12 0 ≡ outcome_of m next
-  unfolding outcome_of choose
-  outcome_rules e f = rw (eq-eqb _ _ e, f)
+  pub refused_rules : length next ≡ NEXT_ENTRIES → machine_table_fits m next ≡ false → Err (refused_as Rules 0) ≡ answer_of m next
+  unfolding answer_of choose
+  refused_rules e f = rw (eq-eqb _ _ e, f)
 
-  pub outcome_found : length next ≡ NEXT_ENTRIES → machine_table_fits m next ≡ true → Found ≡ outcome_of m next
-  unfolding outcome_of choose
-  outcome_found e f = rw (eq-eqb _ _ e, f)
+  pub found : length next ≡ NEXT_ENTRIES → machine_table_fits m next ≡ true → Ok (set_of m next) ≡ answer_of m next
+  unfolding answer_of choose
+  found e f = rw (eq-eqb _ _ e, f)
 
-  flags_empty : both (eqb (length next) NEXT_ENTRIES) (machine_table_fits m next) ≡ false → replicate STATES false ≡ flags_of m next
-  unfolding flags_of both
-  flags_empty e = tabulated false STATES _ (replicate STATES false) refl (λ i l. rw e (get_or-replicate {A = Bool} STATES i false false l))
-
-  pub flags_length : (length next ≡ NEXT_ENTRIES → ⊥) → replicate STATES false ≡ flags_of m next
-  unfolding both
-  flags_length n = flags_empty (rw (ne_eqb _ _ n))
-
-  pub flags_rules : machine_table_fits m next ≡ false → replicate STATES false ≡ flags_of m next
-  flags_rules f = flags_empty (both_no _ f)
-
-  pub flags_found : {flags : List Bool} → length next ≡ NEXT_ENTRIES → machine_table_fits m next ≡ true → Complete m next flags → flags ≡ flags_of m next
+  flags_found : {flags : List Bool} → length next ≡ NEXT_ENTRIES → machine_table_fits m next ≡ true → Complete m next flags → flags ≡ flags_of m next
   unfolding flags_of
   flags_found {flags} e f w = tabulated false STATES _ flags w.long (λ s l. agree _ _ (there s) (back s))
     where
@@ -80,6 +71,9 @@ module _ (m : Machine) (next : List ℕ) where
       back s h =
           let p = both_true _ _ (both_true _ _ h).1 in
           w.reach.all s (r.right s (ltb-true _ _ p.0) p.1)
+
+  pub found_set : (set : Set) → length next ≡ NEXT_ENTRIES → machine_table_fits m next ≡ true → Complete m next (listed set) → Ok set ≡ answer_of m next
+  found_set set e f w = ap Ok (listed_injective set (set_of m next) (flags_found e f w)) ∙ found e f
 
 -- ---- what the flags say
 -- outputs have no say in what is reached

@@ -8,6 +8,9 @@ use Rattle.reach.specs.declared.Set.{Set}
 abbrev pub listed : Set → List Bool
 listed set = set.flags
 
+abbrev pub of_flags : List Bool → Set
+of_flags flags = record { flags = flags }
+
 abbrev pub flag_at : List Bool → ℕ → Bool
 flag_at flags s = get_or flags s false
 

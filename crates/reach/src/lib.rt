@@ -1,14 +1,14 @@
 // The reachable states of a machine: those in which some run from the start ends.
 #![tactic(auto)]
 
-ghost use Rattle.std.specs.Prelude.{◌≡◌, false, ◌+◌, ◌<◌, replicate};
+ghost use Rattle.std.specs.Prelude.{◌≡◌, ◌+◌, ◌<◌};
 ghost use Rattle.model.specs.Limits.{STATES};
 ghost use Rattle.model.specs.Good.{GoodTable};
 ghost use Rattle.reach.specs.Set.{listed, has, size};
 ghost use Rattle.reach.specs.Explored.{Explored, Complete};
-ghost use Rattle.reach.specs.Answered.{outcome_of, flags_of};
+ghost use Rattle.reach.specs.Answered.{answer_of};
 
-use model::{Machine, NEXT_ENTRIES, STATES};
+use model::{Machine, NEXT_ENTRIES, Refusal, Refused, STATES};
 
 // A set of states. Whoever holds one reads it by `contains` and `count` only.
 #[derive(Clone, Copy)]
@@ -16,39 +16,18 @@ pub struct Set {
     flags: [bool; STATES],
 }
 
-#[derive(Clone, Copy)]
-pub enum Outcome {
-    Found,
-    Refused { number: usize, line: usize },
-}
-
-// The set is empty where the call is refused.
-#[derive(Clone, Copy)]
-pub struct Answer {
-    pub outcome: Outcome,
-    pub set: Set,
-}
-
-pub fn contains(set: Set, state: usize) -> bool
-    ensures { result ≡ has set state }
-{
-    if state < STATES {
-        return set.flags[state];
+impl Set {
+    pub fn contains(&self, state: usize) -> bool
+        ensures { result ≡ has self.now state }
+    {
+        self.flags.get(state).copied().unwrap_or(false)
     }
-    false
-}
 
-pub fn count(set: Set) -> usize
-    ensures { result ≡ size set }
-{
-    let mut n = 0;
-    'states: for s in 0..STATES {
-        if set.flags[s] {
-            n += 1;
-            continue 'states;
-        }
+    pub fn count(&self) -> usize
+        ensures { result ≡ size self.now }
+    {
+        self.flags.iter().filter(|flag| **flag).count()
     }
-    n
 }
 
 // Looks at the state that was entered next after the first `done`, and enters the states that its actions lead to first.
@@ -67,6 +46,7 @@ fn look(
 {
     let s = work[done];
     let mut n = entered;
+    // by number: over the row as a slice more goals stay open, since nothing here says how long the table is
     'actions: for a in 0..machine.sizes.actions {
         let t = model::at(next, s * machine.sizes.actions + a);
         if flags[t] {
@@ -98,33 +78,15 @@ fn explore(machine: Machine, next: &[u16]) -> Set
     Set { flags }
 }
 
-// The empty set, with the number of the refusal.
-fn refused(number: usize) -> Answer
-    ensures outcome_value { result.outcome ≡ Outcome.Refused number 0 }
-    ensures set_value { listed result.set ≡ replicate STATES false }
-{
-    Answer {
-        outcome: Outcome::Refused { number, line: 0 },
-        set: Set {
-            flags: [false; STATES],
-        },
-    }
-}
-
-// The reachable states. Refusals: 10 for a table of another length, 12 for a machine or a next state that breaks the rules.
-pub fn reached(machine: Machine, next: &[u16]) -> Answer
-    ensures outcome_value { result.outcome ≡ outcome_of machine next.now }
-    ensures set_value { listed result.set ≡ flags_of machine next.now }
+// The reachable states. Refused: a table of another length, and a machine or a next state that breaks the rules.
+pub fn reached(machine: Machine, next: &[u16]) -> Result<Set, Refused>
+    ensures { result ≡ answer_of machine next.now }
 {
     if next.len() != NEXT_ENTRIES {
-        return refused(10);
+        return Err(Refusal::Length.into());
     }
-    if model::machine_table_fits(machine, next) {
-        let set = explore(machine, next);
-        return Answer {
-            outcome: Outcome::Found,
-            set,
-        };
+    if !model::machine_table_fits(machine, next) {
+        return Err(Refusal::Rules.into());
     }
-    refused(12)
+    Ok(explore(machine, next))
 }

@@ -1,7 +1,7 @@
 // The register machine as fixed tables.
 #![tactic(auto)]
 
-ghost use Rattle.std.specs.Prelude.{◌≡◌, ◌++◌, ◌≤◌, length, drop};
+ghost use Rattle.std.specs.Prelude.{◌≡◌, ◌++◌, ◌≤◌, ◌-◌, length, replicate};
 ghost use Rattle.register.specs.Register as specs;
 
 use model::{Machine, Model, Sizes};
@@ -24,73 +24,47 @@ const VIEWS: [u16; 36] = [
     0, 1, 2, 3,
 ];
 
-// Lays entries at the front of a table.
-fn lay(entries: &[u16], table: &mut [u16])
-    requires { length entries.now ≤ length table.old }
-    ensures { table.new ≡ entries.now ++ drop (length entries.now) table.old }
+// Entries at the front of a table, and the same value behind them.
+fn padded<T: Copy, const N: usize>(entries: &[T], blank: T) -> [T; N]
+    requires { length entries.now ≤ N }
+    ensures { result ≡ entries.now ++ replicate (N - length entries.now) blank }
 {
-    'entries: for i in 0..entries.len() {
-        table[i] = entries[i];
-    }
+    let mut table = [blank; N];
+    table[..entries.len()].copy_from_slice(entries);
+    table
 }
 
 // The next states, zero beyond the model.
 pub fn next() -> [u16; model::NEXT_ENTRIES]
     ensures { result ≡ specs.next }
 {
-    let mut table = [0u16; model::NEXT_ENTRIES];
-    lay(&NEXT, &mut table);
-    table
+    padded(&NEXT, 0)
 }
 
 pub fn outputs() -> [u16; model::OUTPUT_ENTRIES]
     ensures { result ≡ specs.outputs }
 {
-    let mut table = [0u16; model::OUTPUT_ENTRIES];
-    lay(&OUTPUTS, &mut table);
-    table
+    padded(&OUTPUTS, 0)
 }
 
 pub fn views() -> [u16; model::VIEW_ENTRIES]
     ensures { result ≡ specs.views }
 {
-    let mut table = [0u16; model::VIEW_ENTRIES];
-    lay(&VIEWS, &mut table);
-    table
+    padded(&VIEWS, 0)
 }
 
-// The boxes' positions; each has an action of the same number.
-const U: usize = 0;
-
-const V: usize = 1;
-
-const W: usize = 2;
-
-const X: usize = 3;
-
+// The boxes are U, V, W and X, in that order; each has an action of the same number.
 pub fn machine() -> Machine
     ensures { result ≡ specs.machine }
 {
-    let mut owners = [0u8; model::ACTIONS];
-    owners[V] = 1;
-    owners[W] = 2;
-    owners[X] = 3;
-    Machine::new(Sizes::new(9, 4, 4, 0), owners)
+    Machine::new(Sizes::new(9, 4, 4, 0), padded(&[0, 1, 2, 3], 0))
 }
 
 // Their ids, and the arrows 10 to 30, 20 to 30, 30 to 40 with the self-arrows: U and W are 1 and 4, V 2, X 8.
 pub fn model() -> Model
     ensures { result ≡ specs.model }
 {
-    let mut ids = [0u32; model::BOXES];
-    ids[U] = 10;
-    ids[V] = 20;
-    ids[W] = 30;
-    ids[X] = 40;
-    let mut arrows = [0u32; model::BOXES];
-    arrows[U] = 5;
-    arrows[V] = 6;
-    arrows[W] = 12;
-    arrows[X] = 8;
+    let ids = padded(&[10, 20, 30, 40], 0);
+    let arrows = padded(&[5, 6, 12, 8], 0);
     Model::new(machine(), ids, arrows)
 }

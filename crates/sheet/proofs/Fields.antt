@@ -1,4 +1,6 @@
 -- The first field of a line and those after it, by their places. Assumes nothing.
+use Rattle.model.specs.declared.refusal.Refusal.TheVariants as why
+use Rattle.std.specs.Prelude.{Err}
 use Prim.Native.Nat.{ℕ, suc, ◌+◌, ◌-◌, ◌<◌, ◌≤◌}
 use mathlib.Core.Path.{◌≡◌, sym, ap, ◌∙◌}
 use mathlib.Core.Bool.{true}
@@ -11,7 +13,6 @@ use Rattle.model.specs.Limits.{LARGEST_ID}
 use Rattle.text.specs.Number.{number}
 use Rattle.text.specs.Lines.{before, fields_at, field_from, end_of, same}
 use Rattle.text.proofs.Parts.{before_le, fields_all, fields_next, fields_none, first_field, same_is, end_within}
-use Rattle.sheet.specs.declared.Record.TheVariants.{Not}
 use Rattle.sheet.specs.Numbers.{word, rest}
 use Rattle.sheet.specs.Records.{box_of, box_fields}
 
@@ -26,15 +27,15 @@ rest_after l w e =
 
 -- the fields from a place on are two, by the ends of the first and the second
 module _ (ids l : List ℕ) (i : ℕ) where
-  pub none : length l < i → Not 3 ≡ box_fields ids (fields_at l i)
+  pub none : length l < i → Err why.Fields ≡ box_fields ids (fields_at l i)
   none h = rw (fields_none l i h)
 
   module _ (h : i ≤ length l) (e : ℕ) (p : e ≡ end_of 9 l i) where
-    pub one : length l ≤ e → Not 3 ≡ box_fields ids (fields_at l i)
+    pub one : length l ≤ e → Err why.Fields ≡ box_fields ids (fields_at l i)
     one g = rw (fields_next l i h, fields_none l (end_of 9 l i + 1) (omega arith))
 
     module _ (g : e < length l) (f : ℕ) (q : f ≡ end_of 9 l (e + 1)) where
-      pub more : f < length l → Not 3 ≡ box_fields ids (fields_at l i)
+      pub more : f < length l → Err why.Fields ≡ box_fields ids (fields_at l i)
       more k = rw (fields_next l i h, ← p, fields_next l (e + 1) (omega arith), ← q, fields_next l (f + 1) (omega arith), ne_eqb (suc (suc (suc (length (fields_at l (end_of 9 l (f + 1) + 1)))))) 2 (λ z. omega arith))
 
       pub two : length l ≤ f → box_of ids (number LARGEST_ID (field_from l i)) (take (length l - (e + 1)) (drop (e + 1) l)) ≡ box_fields ids (fields_at l i)

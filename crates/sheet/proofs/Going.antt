@@ -1,4 +1,7 @@
 -- What a loop over the lines that are due knows, for every kind of line. Assumes nothing.
+use Rattle.model.specs.declared.refusal.Refusal.{Refusal}
+use Rattle.model.specs.declared.refusal.Refusal.TheVariants as why
+use Rattle.std.specs.Prelude.{Ok, Err}
 use Prim.Native.Nat.{ℕ, suc, ◌+◌, ◌-◌, ◌<◌, ◌≤◌}
 use mathlib.Core.Path.{◌≡◌}
 use mathlib.Core.List.{List}
@@ -8,10 +11,9 @@ use native.Mathlib.Numerals.{add-one}
 use lib.ListN.{length, drop}
 use Rattle.text.specs.Lines.{lines, end_of, line_at, Ended}
 use Rattle.text.proofs.Parts.{line_next, no_lines}
-use Rattle.sheet.specs.declared.Record.{Record}
-use Rattle.sheet.specs.declared.Record.TheVariants.{Numbers}
-use Rattle.sheet.specs.declared.Taken.TheVariants.{Took, Stopped}
-use Rattle.sheet.specs.Numbers.{on_record}
+use Rattle.model.specs.declared.refusal.Refused.{Refused}
+use Rattle.sheet.specs.declared.Taken.{Taken}
+use Rattle.sheet.specs.Numbers.{Record, on_record}
 use Rattle.sheet.specs.Phases.{Got, got, refused, phase, taken_by}
 use Rattle.sheet.proofs.Taking.{TookFrom, took_from, StoppedFrom, ended, bad, stopped_from}
 
@@ -40,31 +42,34 @@ module _ {S : Type 0} {line : ℕ → S → List ℕ → Record} {store : ℕ �
     step g = (rw (more, line_next p.closed at g) at p.rest)
 
     -- the text has ended
-    none : length t ≤ at → refused 11 n ≡ all
+    none : length t ≤ at → refused why.Ended n ≡ all
     unfolding phase
     none g = (rw (more, no_lines t at g) at p.rest)
 
-    pub stopped : (x : ℕ) → taken_by (line k s) t at ≡ Stopped x → refused x n ≡ all
-    stopped x e = go (stopped_from (line k s) t at x e)
+    pub stopped : (x : Refused) → taken_by (line k s) t at n ≡ Err x → refused x.refusal x.line ≡ all
+    stopped x e = let w = stopped_from (line k s) t at n x e in rw w.1 (go w.0)
       where
-        go : {x : ℕ} → StoppedFrom (line k s) t at x → refused x n ≡ all
+        go : {y : Refusal} → StoppedFrom (line k s) t at n y → refused y n ≡ all
         go (ended g) = none g
         go (bad g w) = (rw w at (step g))
 
-    module _ {a b c d next : ℕ} (e : taken_by (line k s) t at ≡ Took a b c d next) where
-      from : TookFrom (line k s) t at a b c d next
-      from = took_from (line k s) t at a b c d next e
+    module _ {x : Taken} (e : taken_by (line k s) t at n ≡ Ok x) where
+      from : TookFrom (line k s) t at n x
+      from = took_from (line k s) t at n x e
 
       pub line_fits : n ≤ length t
       line_fits = omega (arith, from.within, p.few)
 
-      pub said : line k s (line_at t at) ≡ Numbers a b c d
+      pub said : line k s (line_at t at) ≡ Ok x.numbers
       said = from.line_is
 
-      pub took : Going line store t all total (k + 1) (store k s a b c d) next (n + 1)
+      pub few_more : n + 1 ≤ x.next + 1
+      few_more = omega (arith, from.next_is, p.few)
+
+      pub took : Going line store t all total (k + 1) (store k s x.numbers.first x.numbers.second x.numbers.third x.numbers.fourth) x.next (n + 1)
       took = record {
         closed = p.closed;
-        few = omega (arith, from.next_is, p.few);
+        few = few_more;
         below = omega arith;
         rest = rw (from.next_is, add-one n, add-one k) (rw (from.line_is, add-one k) at (step from.within));
       }

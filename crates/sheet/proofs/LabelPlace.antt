@@ -15,15 +15,17 @@ use Rattle.model.specs.Limits.{BOXES}
 use Rattle.model.specs.declared.Sizes.{Sizes}
 use Rattle.text.specs.Lines.{before, lines, end_of, line_at, fields_at, field_from, Ended}
 use Rattle.text.proofs.Parts.{fields_none, fields_next, line_ends}
-use Rattle.sheet.specs.declared.Found.TheVariants.{At, Refused}
+use Rattle.std.specs.Prelude.{Result, Ok, Err}
+use Rattle.model.specs.declared.refusal.Refusal.TheVariants as why
+use Rattle.model.specs.declared.refusal.Refused.{Refused}
+use Rattle.model.specs.Refusal.{refused_as}
+use Rattle.model.specs.declared.Model.{Model}
 use Rattle.sheet.specs.declared.Place.{Place}
-use Rattle.sheet.specs.declared.Answer.{Answer}
-use Rattle.sheet.specs.declared.Answer.TheVariants as answer
 use Rattle.sheet.specs.Numbers.{rest}
 use Rattle.sheet.specs.Records.{box_line, label_good}
-use Rattle.sheet.specs.Phases.{boxes}
-use Rattle.sheet.specs.Reading.{Parts, parts, Reading, model, refusal, sheet_text, reading_of}
-use Rattle.sheet.specs.Label.{third_field, box_start, label_place, placed, found_in, label_found, label}
+use Rattle.sheet.specs.Phases.{Steps, boxes}
+use Rattle.sheet.specs.Reading.{Parts, parts_as, drawn_as, parts, Reading, model, refusal, sheet_text, reading_of}
+use Rattle.sheet.specs.Label.{third_field, box_start, label_place, found_in, label_found, labelled, label}
 use Rattle.sheet.proofs.Fields.{rest_from}
 use Rattle.sheet.proofs.Good.{sheet_good, Boxed, box_good}
 use Rattle.sheet.proofs.Places.{line_there}
@@ -85,25 +87,26 @@ box_there t {z} {p} h position g =
     }
 
 -- a label that is found is a part of the text
-pub found_within : (t : List ℕ) (position : ℕ) {start end : ℕ} → label_found t position ≡ At start end → (start ≤ end) × (end ≤ length t)
+pub found_within : (t : List ℕ) (position : ℕ) (x : Place) → label_found t position ≡ Ok x → (x.start ≤ x.end) × (x.end ≤ length t)
 unfolding label_found
-found_within t position {start} {end} h = go (sheet_text t) refl h
+found_within t position x h = go (sheet_text t) refl h
   where
-    refusal_is_none : {e n : ℕ} {A : Type 0} → Refused e n ≡ At start end → A
+    refusal_is_none : {r : Refused} {A : Type 0} → ◌≡◌ {A = Result Place Refused} (Err r) (Ok x) → A
     refusal_is_none h = let z : ◌≡◌ {A = ℕ} 0 1 = cc in absurd (omega arith)
 
-    there : BoxThere t position → placed (label_place t position) ≡ At start end → (start ≤ end) × (end ≤ length t)
+    there : BoxThere t position → ◌≡◌ {A = Result Place Refused} (Ok (label_place t position)) (Ok x) → (x.start ≤ x.end) × (x.end ≤ length t)
     there b h =
         let p = (places.placed b.closed (position + 1) b.there).within in
-        let s : box_start t position + third_field (line_at t (box_start t position)) ≡ start = cc in
-        let e : end_of 10 t (box_start t position) ≡ end = cc in
+        let w : label_place t position ≡ x = cc in
+        let s : box_start t position + third_field (line_at t (box_start t position)) ≡ x.start = ap (λ (y : Place). y.start) w in
+        let e : end_of 10 t (box_start t position) ≡ x.end = ap (λ (y : Place). y.end) w in
         (omega (arith, third_within (line_at t (box_start t position)) b.is.three, line_length b.closed (box_start t position) p, line_ends b.closed (box_start t position) p), omega (arith, line_ends b.closed (box_start t position) p))
 
-    go : (r : Reading) → sheet_text t ≡ r → found_in r t position ≡ At start end → (start ≤ end) × (end ≤ length t)
+    go : (r : Reading) → sheet_text t ≡ r → found_in r t position ≡ Ok x → (x.start ≤ x.end) × (x.end ≤ length t)
     go (refusal e n) q h = refusal_is_none h
     go (model z p) q h = which (ltb position z.boxes) refl h
       where
-        which : (u : Bool) → ltb position z.boxes ≡ u → cond u (placed (label_place t position)) (Refused 13 0) ≡ At start end → (start ≤ end) × (end ≤ length t)
+        which : (u : Bool) → ltb position z.boxes ≡ u → cond u (Ok (label_place t position)) (Err (refused_as why.Range 0)) ≡ Ok x → (x.start ≤ x.end) × (x.end ≤ length t)
         which true w h = there (box_there t q position (ltb-true _ _ w)) h
         which false w h = refusal_is_none h
 
@@ -140,25 +143,25 @@ module _ {t : List ℕ} (position : ℕ) (q : Ended t) (there : position + 1 < l
         place_is = rw (id_is, e, s)
 
 -- the label call's cases, by what the reader's answer says
-module _ (t : List ℕ) (a : Answer) (x : Parts) (h : reading_of a x ≡ sheet_text t) (position : ℕ) where
-  pub found_refused : {e n : ℕ} → a ≡ answer.Refused e n → Refused e n ≡ label_found t position
+module _ (t : List ℕ) (a : Result Model Refused) (s : Steps) (v : List ℕ) (h : reading_of a s v ≡ sheet_text t) (position : ℕ) where
+  pub found_refused : (r : Refused) → a ≡ Err r → Err r ≡ label_found t position
   unfolding label_found
-  found_refused q = rw (← h, q)
+  found_refused r q = rw (← h, q)
 
-  module _ {z : Sizes} (q : a ≡ answer.Model z) where
-    is_model_lem : sheet_text t ≡ model z x
+  module _ {m : Model} (q : a ≡ Ok m) where
+    is_model_lem : sheet_text t ≡ model m.machine.sizes (parts_as m.ids m.machine.owners (drawn_as s m.arrows v))
     is_model_lem = sym h ∙ rw q
 
-    pub found_box : position < z.boxes → BoxThere t position
+    pub found_box : position < m.machine.sizes.boxes → BoxThere t position
     found_box g = box_there t is_model_lem position g
 
-    pub found_place : {p : Place} → position < z.boxes → p ≡ label_place t position → placed p ≡ label_found t position
+    pub found_place : {p : Place} → position < m.machine.sizes.boxes → p ≡ label_place t position → Ok p ≡ label_found t position
     unfolding label_found
-    found_place g e = rw (is_model_lem, lt-ltb position z.boxes g, e)
+    found_place g e = rw (is_model_lem, lt-ltb position m.machine.sizes.boxes g, e)
 
-    pub found_none : z.boxes ≤ position → Refused 13 0 ≡ label_found t position
+    pub found_none : m.machine.sizes.boxes ≤ position → Err (refused_as why.Range 0) ≡ label_found t position
     unfolding label_found
-    found_none g = rw (is_model_lem, le-ltb position z.boxes g)
+    found_none g = rw (is_model_lem, le-ltb position m.machine.sizes.boxes g)
 
 -- the third field of a line that has three stands from its start to the line's end
 third_is : (l : List ℕ) → length (rest l) ≡ 2 → get_or (rest l) 1 [] ≡ drop (third_field l) l
@@ -183,14 +186,24 @@ part_of t at end k =
     let m : end - (at + k) ≡ (end - at) - k = omega arith in
     rw (m, ← drop-drop k at t) (drop_take k (end - at) (drop at t))
 
-found_bytes : (t : List ℕ) {z : Sizes} {p : Parts} → sheet_text t ≡ model z p → (position : ℕ) → position < z.boxes → (label t position).bytes ≡ drop (third_field (line_at t (box_start t position))) (line_at t (box_start t position))
-unfolding label_found
-found_bytes t {z} h position g = rw (h, lt-ltb position z.boxes g) (part_of t (box_start t position) (end_of 10 t (box_start t position)) (third_field (line_at t (box_start t position))))
-
 -- the label that is found is the third field of the position's `box` line, and a good label
-pub label_is : (t : List ℕ) {z : Sizes} {p : Parts} → sheet_text t ≡ model z p → (position : ℕ) → position < z.boxes
-    → ((label t position).bytes ≡ get_or (rest (get_or (lines t) (position + 1) [])) 1 []) × (label_good (label t position).bytes ≡ true)
-label_is t h position g =
+pub record LabelIs (t : List ℕ) (position : ℕ) : Type 0 where
+  pub bytes : List ℕ
+  pub start : ℕ
+  pub is : label t position ≡ Ok (labelled bytes start)
+  pub third : bytes ≡ get_or (rest (get_or (lines t) (position + 1) [])) 1 []
+  pub good : label_good bytes ≡ true
+
+pub label_is : (t : List ℕ) {z : Sizes} {p : Parts} → sheet_text t ≡ model z p → (position : ℕ) → position < z.boxes → LabelIs t position
+unfolding label_found
+label_is t {z} h position g =
     let w = box_there t h position g in
-    let third : (label t position).bytes ≡ get_or (rest (line_at t (box_start t position))) 1 [] = found_bytes t h position g ∙ sym (third_is (line_at t (box_start t position)) w.is.three) in
-    (third ∙ ap (λ (l : List ℕ). get_or (rest l) 1 []) (line_there w.closed (position + 1) w.there), ap (λ (l : List ℕ). label_good l) third ∙ w.is.label)
+    let bytes : take (end_of 10 t (box_start t position) - (box_start t position + third_field (line_at t (box_start t position)))) (drop (box_start t position + third_field (line_at t (box_start t position))) t) ≡ drop (third_field (line_at t (box_start t position))) (line_at t (box_start t position)) = part_of t (box_start t position) (end_of 10 t (box_start t position)) (third_field (line_at t (box_start t position))) in
+    let third : drop (third_field (line_at t (box_start t position))) (line_at t (box_start t position)) ≡ get_or (rest (line_at t (box_start t position))) 1 [] = sym (third_is (line_at t (box_start t position)) w.is.three) in
+    record {
+      bytes = drop (third_field (line_at t (box_start t position))) (line_at t (box_start t position));
+      start = box_start t position + third_field (line_at t (box_start t position));
+      is = rw (h, lt-ltb position z.boxes g, bytes);
+      third = third ∙ ap (λ (l : List ℕ). get_or (rest l) 1 []) (line_there w.closed (position + 1) w.there);
+      good = ap (λ (l : List ℕ). label_good l) third ∙ w.is.label;
+    }

@@ -4,8 +4,7 @@ pub mod Taking
 pub mod Going
 pub mod OnePass
 pub mod Good
-pub mod Arrows
-pub mod Chain
+pub mod ArrowLines
 pub mod First
 pub mod Outcome
 pub mod Places

@@ -1,35 +1,30 @@
 -- Laws of reading in one pass: a number digit by digit, and the line that its numbers make. Assumes nothing.
+use Rattle.std.proofs.Math.ListN.{get_or-eq_default}
+use Rattle.std.proofs.Common.{drop-drop}
+use Rattle.std.proofs.lemmas.List.{take-append-drop}
+use Rattle.std.specs.Prelude.{Ok, Option, Some, None}
 use Prim.Native.Nat.{ℕ, zero, suc, ◌+◌, ◌-◌, ◌<◌}
 use mathlib.Core.Path.{◌≡◌, refl, sym, ap, ◌∙◌}
 use mathlib.Core.List.{List, [], ◌∷◌, ◌++◌, append_assoc}
 use mathlib.Core.Bool.{Bool, true, false, cond}
 use native.Mathlib.Omega.{arith}
 use native.Mathlib.Decide.{dec_lt}
-use native.Mathlib.Numerals.{add-one}
 use lib.ListN.{length, get_or, set, take, drop, replicate, length-append, length-drop}
-use lib.Seq.{take-length, take-suc, append_snoc, get_or-drop, get_or-append_seam, take-append_seam}
+use lib.Seq.{get_or-drop, get_or-append_seam, take-append_seam}
 use lib.Dec.{eqb}
 use borrow.Author.Tests.{eqb-true, lt-ltb, eq-eqb, ne_eqb}
 use Rattle.laws.specs.Lists.{All}
-use Rattle.text.specs.declared.Number.{Number}
-use Rattle.text.specs.declared.Number.TheVariants.{Good, Bad}
 use Rattle.text.specs.Number.{on_number, digit, more, number}
 use Rattle.text.specs.Lines.{before, onto, fields, same, end_of, line_at, Ended}
 use Rattle.text.proofs.Digits.{digit_not_low}
 use Rattle.text.proofs.Parts as parts
 use Rattle.sheet.specs.declared.Digits.{Digits}
-use Rattle.sheet.specs.declared.Digits.TheVariants.{Read, Other}
-use Rattle.sheet.specs.declared.Arrow.{Arrow}
-use Rattle.sheet.specs.declared.Arrow.TheVariants as arrow
-use Rattle.sheet.specs.declared.Flow.{Flow}
-use Rattle.sheet.specs.declared.Record.TheVariants.{Numbers}
-use Rattle.sheet.specs.declared.Taken.{Taken}
-use Rattle.sheet.specs.declared.Taken.TheVariants.{Took}
+use Rattle.sheet.specs.declared.Arrows.TheVariants as arrow
 use Rattle.sheet.specs.Words as words
-use Rattle.sheet.specs.Numbers.{four, each, numbers, word, record_of}
-use Rattle.sheet.specs.Records.{go_limits, view_limits, arrow_limits, go_line, view_line, arrow_line, flow_line, on_flow}
-use Rattle.sheet.specs.Phases.{taken_by}
-use Rattle.sheet.specs.OnePass.{Standing, NumberAt, MoreAt, NumberRead, MoreRead, Quickly, Begins, ArrowAt, ArrowRead, flow_at, QuickFlow}
+use Rattle.sheet.specs.Numbers.{said, four, each, numbers, word, record_of}
+use Rattle.sheet.specs.Records.{go_limits, view_limits, arrow_limits, go_line, view_line, arrow_line, flow_line}
+use Rattle.sheet.specs.Phases.{taken, taken_by}
+use Rattle.sheet.specs.OnePass.{drawn_to, Standing, NumberAt, MoreAt, NumberRead, MoreRead, Begins, ArrowAt, ArrowRead, flow_at}
 
 -- ---- places in a text that ends in LF
 module _ {t : List ℕ} (q : Ended t) where
@@ -41,7 +36,7 @@ module _ {t : List ℕ} (q : Ended t) where
       go (yes g) = g
       go (no g) = let e : at ≡ length t - 1 = omega arith in absurd (n (ap (λ (i : ℕ). get_or t i 0) e ∙ q.last))
 
-  pub after_digit : (limit v w at : ℕ) → at < length t → digit limit v (get_or t at 0) ≡ Good w → at + 1 < length t
+  pub after_digit : (limit v w at : ℕ) → at < length t → digit limit v (get_or t at 0) ≡ Some w → at + 1 < length t
   after_digit limit v w at h g = not_last at h (λ e. digit_not_low limit v (get_or t at 0) w g (omega arith))
 
   -- what stands before another byte than LF does not end the text
@@ -62,40 +57,44 @@ module _ (t : List ℕ) (stop at : ℕ) (h : at < length t) where
     one_more : {bytes : List ℕ} {next : ℕ} → Standing t stop j bytes next → Standing t stop at (get_or t at 0 ∷ bytes) next
     one_more p = record { here = rw after (parts.at t at h) ∙ ap (λ s. get_or t at 0 ∷ s) p.here; next_is = omega (arith, p.next_is) }
 
-    pub more_one : (limit v w : ℕ) → 0 < v → digit limit v (get_or t at 0) ≡ Good w → (r : Digits) → MoreRead limit t stop j w r → MoreRead limit t stop at v r
+    pub more_one : (limit v w : ℕ) → 0 < v → digit limit v (get_or t at 0) ≡ Some w → (r : Option Digits) → MoreRead limit t stop j w r → MoreRead limit t stop at v r
     unfolding more
-    more_one limit v w k g (Read x next) p = record { bytes = get_or t at 0 ∷ p.bytes; standing = one_more p.standing; says = simp (ne_eqb v 0 (λ e. omega arith), g) p.says }
-    more_one limit v w k g Other p = tt
+    more_one limit v w k g (Some x) p = record { bytes = get_or t at 0 ∷ p.bytes; standing = one_more p.standing; says = simp (ne_eqb v 0 (λ e. omega arith), g) p.says }
+    more_one limit v w k g None p = tt
 
-    pub number_one : (limit w : ℕ) → digit limit 0 (get_or t at 0) ≡ Good w → (r : Digits) → MoreRead limit t stop j w r → NumberRead limit t stop at r
+    pub number_one : (limit w : ℕ) → digit limit 0 (get_or t at 0) ≡ Some w → (r : Option Digits) → MoreRead limit t stop j w r → NumberRead limit t stop at r
     unfolding number
-    number_one limit w g (Read x next) p = record { bytes = get_or t at 0 ∷ p.bytes; standing = one_more p.standing; says = simp g p.says }
-    number_one limit w g Other p = tt
+    number_one limit w g (Some x) p = record { bytes = get_or t at 0 ∷ p.bytes; standing = one_more p.standing; says = simp g p.says }
+    number_one limit w g None p = tt
 
 -- ---- what an answer says
-pub number_at : (limit : ℕ) (t : List ℕ) (stop at : ℕ) (r : Digits) {v next : ℕ} → r ≡ Read v next → NumberRead limit t stop at r → NumberAt limit t stop at v next
+pub number_at : (limit : ℕ) (t : List ℕ) (stop at : ℕ) (r : Option Digits) {d : Digits} → r ≡ Some d → NumberRead limit t stop at r → NumberAt limit t stop at d.value d.next
 number_at limit t stop at r e p = (rw e at p)
 
 pub word_at : (t w : List ℕ) (at b : ℕ) (r : Bool) → r ≡ true → Begins t at w r → b ≡ at + length w + 1 → Standing t 9 at w b
 word_at t w at b r e p f = rw f (rw e at p)
 
--- ---- a word, byte by byte
-pub word_more : (t w : List ℕ) (at i : ℕ) → at + i < length t → i < length w → get_or t (at + i) 0 ≡ get_or w i 0 → drop at t ≡ take i w ++ drop (at + i) t → drop at t ≡ take (i + 1) w ++ drop (at + (i + 1)) t
-word_more t w at i h g e p =
-    let k : at + i + 1 ≡ at + (i + 1) = omega arith in
-    let n : drop (at + i) t ≡ get_or w i 0 ∷ drop (at + (i + 1)) t = parts.at t (at + i) h ∙ rw (e, k) in
-    p
-    ∙ ap (λ s. take i w ++ s) n
-    ∙ sym (rw (add-one i, take-suc w i 0 g) (append_snoc (take i w) (get_or w i 0) (drop (at + suc i) t)))
-
-pub word_end : (t w : List ℕ) (at : ℕ) → at + length w < length t → drop at t ≡ take (length w) w ++ drop (at + length w) t → Begins t at w (eqb (get_or t (at + length w) 0) 9)
-word_end t w at h p = go (eqb (get_or t (at + length w) 0) 9) refl
+-- ---- a word with a tab behind it
+word_stands : (t w rest : List ℕ) (at : ℕ) → rest ≡ drop at t → w ≡ take (length w) rest → get_or rest (length w) 0 ≡ 9 → Standing t 9 at w (at + length w + 1)
+word_stands t w rest at e p n =
+    let h : length w < length rest = go (dec_lt (length w) (length rest)) in
+    let k : at + (length w + 1) ≡ at + length w + 1 = omega arith in
+    let front : rest ≡ w ++ drop (length w) rest = sym (take-append-drop (length w) rest) ∙ ap (λ (s : List ℕ). s ++ drop (length w) rest) (sym p) in
+    record {
+      here = sym e ∙ front ∙ ap (λ (s : List ℕ). w ++ s) (parts.at rest (length w) h ∙ rw (n, e, drop-drop, k));
+      next_is = refl;
+    }
   where
-    go : (b : Bool) → eqb (get_or t (at + length w) 0) 9 ≡ b → Begins t at w b
-    go true e =
-        let n : drop (at + length w) t ≡ 9 ∷ drop (at + length w + 1) t = rw (← eqb-true (get_or t (at + length w) 0) 9 e) (parts.at t (at + length w) h) in
-        record { here = p ∙ ap (λ (s : List ℕ). s ++ drop (at + length w) t) (take-length w) ∙ ap (λ (s : List ℕ). w ++ s) n; next_is = refl }
-    go false e = tt
+    go : Dec (length w < length rest) → length w < length rest
+    go (yes g) = g
+    go (no g) = let z : ◌≡◌ {A = ℕ} 0 9 = sym (get_or-eq_default rest 0 (omega arith)) ∙ n in absurd (omega arith)
+
+pub word_begins : (t w rest : List ℕ) (at b : ℕ) → rest ≡ drop at t → w ≡ take (length w) rest → b ≡ get_or rest (length w) 0 → Begins t at w (eqb b 9)
+word_begins t w rest at b e p n = go (eqb b 9) refl
+  where
+    go : (x : Bool) → eqb b 9 ≡ x → Begins t at w x
+    go true q = word_stands t w rest at e p (sym n ∙ eqb-true b 9 q)
+    go false q = tt
 
 -- ---- plain bytes: no tab and no LF
 abbrev pub Plain : List ℕ → Type 0
@@ -106,31 +105,31 @@ plain_at [] i p h = absurd (omega arith)
 plain_at (x ∷ xs) zero p h = p.0
 plain_at (x ∷ xs) (suc i) p h = plain_at xs i p.1 (omega arith)
 
-digit_plain : (limit v d w : ℕ) → digit limit v d ≡ Good w → 10 < d
+digit_plain : (limit v d w : ℕ) → digit limit v d ≡ Some w → 10 < d
 digit_plain limit v d w g = go (dec_lt d 48)
   where
     go : Dec (d < 48) → 10 < d
     go (yes k) = absurd (digit_not_low limit v d w g k)
     go (no k) = omega arith
 
-more_plain : (limit : ℕ) (f : List ℕ) (v w : ℕ) → more limit f v ≡ Good w → Plain f
+more_plain : (limit : ℕ) (f : List ℕ) (v w : ℕ) → more limit f v ≡ Some w → Plain f
 unfolding more
 more_plain limit [] v w h = tt
 more_plain limit (d ∷ ds) v w h = go (more_plain limit ds) (eqb v 0) (digit limit v d) refl h
   where
-    go : ((v w : ℕ) → more limit ds v ≡ Good w → Plain ds) → (t : Bool) (n : Number) → digit limit v d ≡ n → cond t Bad (on_number n (more limit ds) Bad) ≡ Good w → Plain (d ∷ ds)
+    go : ((v w : ℕ) → more limit ds v ≡ Some w → Plain ds) → (t : Bool) (n : Option ℕ) → digit limit v d ≡ n → cond t None (on_number n (more limit ds) None) ≡ Some w → Plain (d ∷ ds)
     go f true n q h = let z : ◌≡◌ {A = ℕ} 0 1 = cc in absurd (omega arith)
-    go f false (Good u) q h = (digit_plain limit v d u q, f u w h)
-    go f false Bad q h = let z : ◌≡◌ {A = ℕ} 0 1 = cc in absurd (omega arith)
+    go f false (Some u) q h = (digit_plain limit v d u q, f u w h)
+    go f false None q h = let z : ◌≡◌ {A = ℕ} 0 1 = cc in absurd (omega arith)
 
-number_plain : (limit : ℕ) (f : List ℕ) (w : ℕ) → number limit f ≡ Good w → Plain f
+number_plain : (limit : ℕ) (f : List ℕ) (w : ℕ) → number limit f ≡ Some w → Plain f
 unfolding number
 number_plain limit [] w h = let z : ◌≡◌ {A = ℕ} 0 1 = cc in absurd (omega arith)
 number_plain limit (d ∷ ds) w h = go (digit limit 0 d) refl h
   where
-    go : (n : Number) → digit limit 0 d ≡ n → on_number n (more limit ds) Bad ≡ Good w → Plain (d ∷ ds)
-    go (Good u) q h = (digit_plain limit 0 d u q, more_plain limit ds u w h)
-    go Bad q h = let z : ◌≡◌ {A = ℕ} 0 1 = cc in absurd (omega arith)
+    go : (n : Option ℕ) → digit limit 0 d ≡ n → on_number n (more limit ds) None ≡ Some w → Plain (d ∷ ds)
+    go (Some u) q h = (digit_plain limit 0 d u q, more_plain limit ds u w h)
+    go None q h = let z : ◌≡◌ {A = ℕ} 0 1 = cc in absurd (omega arith)
 
 plain_before : (f s : List ℕ) → Plain f → before 10 (f ++ s) ≡ length f + before 10 s
 unfolding before
@@ -247,49 +246,35 @@ module _ {t w ms vs : List ℕ} {at b next : ℕ} (p : Plain w) (s : Standing t 
   }
 
 -- ---- the lines that are due
-pub quick_go : {t : List ℕ} {at s a x o next : ℕ} (states state action : ℕ) → LineIs t words.go go_limits at (s ∷ a ∷ x ∷ o ∷ []) next → s ≡ state → a ≡ action → x < states → taken_by (go_line states state action) t at ≡ Took s a x o next
+pub quick_go : {t : List ℕ} {at s a x o next : ℕ} (states state action : ℕ) → LineIs t words.go go_limits at (s ∷ a ∷ x ∷ o ∷ []) next → s ≡ state → a ≡ action → x < states → (n : ℕ) → taken_by (go_line states state action) t at n ≡ Ok (taken s a x o next)
 unfolding go_line
-quick_go {t} {at} {s} {a} {x} {o} {next} states state action p e f g =
+quick_go {t} {at} {s} {a} {x} {o} {next} states state action p e f g n =
     rw (lt-ltb at (length t) p.within, p.says, eq-eqb s state e, eq-eqb a action f, lt-ltb x states g, p.next_is)
 
-pub quick_view : {t : List ℕ} {at i s x next : ℕ} (id state : ℕ) → LineIs t words.view view_limits at (i ∷ s ∷ x ∷ []) next → i ≡ id → s ≡ state → taken_by (view_line id state) t at ≡ Took i s x 0 next
+pub quick_view : {t : List ℕ} {at i s x next : ℕ} (id state : ℕ) → LineIs t words.view view_limits at (i ∷ s ∷ x ∷ []) next → i ≡ id → s ≡ state → (n : ℕ) → taken_by (view_line id state) t at n ≡ Ok (taken i s x 0 next)
 unfolding view_line
-quick_view {t} {at} {i} {s} {x} {next} id state p e f =
+quick_view {t} {at} {i} {s} {x} {next} id state p e f n =
     rw (lt-ltb at (length t) p.within, p.says, eq-eqb i id e, eq-eqb s state f, p.next_is)
-
--- a line that was taken quickly
-pub quickly_taken : (x r : Taken) {a b c d next : ℕ} → r ≡ Took a b c d next → Quickly x r → r ≡ x
-quickly_taken x r e p = e ∙ sym (rw e at p)
 
 -- ---- arrows
 module _ {t ids : List ℕ} {at b v u next : ℕ} (w : List ℕ) (plain : Plain w) (s : Standing t 9 at w b) (a : ArrowAt ids t b v u next) where
   arrow_line_lem : LineIs t w arrow_limits at (a.from ∷ a.to ∷ []) next
   arrow_line_lem = line_of plain s (onward a.first (ends a.second))
 
-  arrow_says_lem : arrow_line w ids (line_at t at) ≡ Numbers v u 0 0
+  arrow_says_lem : arrow_line w ids (line_at t at) ≡ said v u 0 0
   unfolding arrow_line
   arrow_says_lem = rw (arrow_line_lem.says, ← a.from_is, ← a.to_is, lt-ltb v (length ids) a.from_known, lt-ltb u (length ids) a.to_known)
 
-pub quick_one : (ids t : List ℕ) (at b : ℕ) (r : Taken) {v u x y next : ℕ} → Standing t 9 at words.flow b → r ≡ Took v u x y next → ArrowRead ids t b r → flow_at ids t at ≡ arrow.One v u next
+pub quick_one : (ids t : List ℕ) (at b : ℕ) (r : Option (ℕ × ℕ × ℕ)) {x : ℕ × ℕ × ℕ} → Standing t 9 at words.flow b → r ≡ Some x → ArrowRead ids t b r → (n : ℕ) → flow_at ids t at n ≡ Ok (Some (drawn_to (arrow.One x.0 x.1) x.2))
 unfolding flow_line same
-quick_one ids t at b r s e p =
+quick_one ids t at b r s e p n =
     let a = (rw e at p) in
     let k : Plain words.flow = (omega arith, (omega arith, (omega arith, (omega arith, tt)))) in
     rw ((arrow_line_lem words.flow k s a).word_is, arrow_says_lem words.flow k s a, (arrow_line_lem words.flow k s a).next_is)
 
-pub quick_two : (ids t : List ℕ) (at b : ℕ) (r : Taken) {v u x y next : ℕ} → Standing t 9 at words.both b → r ≡ Took v u x y next → ArrowRead ids t b r → flow_at ids t at ≡ arrow.Two v u next
+pub quick_two : (ids t : List ℕ) (at b : ℕ) (r : Option (ℕ × ℕ × ℕ)) {x : ℕ × ℕ × ℕ} → Standing t 9 at words.both b → r ≡ Some x → ArrowRead ids t b r → (n : ℕ) → flow_at ids t at n ≡ Ok (Some (drawn_to (arrow.Two x.0 x.1) x.2))
 unfolding flow_line same
-quick_two ids t at b r s e p =
+quick_two ids t at b r s e p n =
     let a = (rw e at p) in
     let k : Plain words.both = (omega arith, (omega arith, (omega arith, (omega arith, tt)))) in
     rw ((arrow_line_lem words.both k s a).word_is, arrow_says_lem words.both k s a, (arrow_line_lem words.both k s a).next_is)
-
--- the exact way
-pub exact_at : (ids t : List ℕ) (at : ℕ) {start end next : ℕ} → parts.Found t at start end next → (x : Flow) → flow_line ids (take (end - start) (drop start t)) ≡ x → on_flow x (λ v u. arrow.One v u next) (λ v u. arrow.Two v u next) arrow.Not arrow.Other ≡ flow_at ids t at
-exact_at ids t at p x e = rw (rw (p.start_is, p.end_is) at e, p.next_is)
-
-pub quick_flow_taken : (x r : Arrow) → (r ≡ arrow.Other → ⊥) → QuickFlow x r → r ≡ x
-quick_flow_taken x (arrow.One v u next) k p = sym p
-quick_flow_taken x (arrow.Two v u next) k p = sym p
-quick_flow_taken x (arrow.Not e) k p = sym p
-quick_flow_taken x arrow.Other k p = absurd (k refl)

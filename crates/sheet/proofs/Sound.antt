@@ -1,4 +1,5 @@
 -- A text that is not refused gives a model that keeps to the rules. Assumes nothing.
+use Rattle.std.specs.Prelude.{Ok, Err, Some, None}
 use Prim.Native.Nat.{ℕ, suc, ◌*◌, ◌/◌, ◌%◌, ◌<◌, ◌≤◌}
 use mathlib.Core.Path.{◌≡◌, refl, sym, ap, ◌∙◌}
 use mathlib.Core.List.{List, [], ◌∷◌}
@@ -19,9 +20,8 @@ use Rattle.model.specs.Good.{GoodSizes}
 use Rattle.model.specs.declared.Sizes.{Sizes}
 use Rattle.model.specs.Limits.{STATES, ACTIONS, BOXES, NEXT_ENTRIES, OUTPUT_ENTRIES, VIEW_ENTRIES, LARGEST_ID, LARGEST_NUMBER}
 use Rattle.text.proofs.Parts.{before_hit}
-use Rattle.sheet.specs.declared.Flow.{Flow}
-use Rattle.sheet.specs.declared.Flow.TheVariants.{One, Two, Not, Other}
-use Rattle.sheet.specs.Records.{position, known, box_line, act_line, go_line, view_line, flow_line, on_flow}
+use Rattle.sheet.specs.declared.Arrows.TheVariants.{One, Two}
+use Rattle.sheet.specs.Records.{Flow, position, known, box_line, act_line, go_line, view_line, flow_line, on_flow}
 use Rattle.sheet.specs.Phases.{got, refused, boxes, acts, goes, Steps, steps, flows, views}
 use Rattle.sheet.specs.Reading.{zeros, Drawn, drawn_as, drawing, Parts, parts_as, parts, model, sheet_text}
 use Rattle.sheet.proofs.Good.{sheet_good, box_good, act_good, go_good, view_good, flow_good}
@@ -158,10 +158,10 @@ arrows_kept ids c n arrows (l ∷ ls) k {arrows'} {ls'} {k'} p h = go (λ a p h.
         → (f : Flow) → flow_line ids l ≡ f
         → on_flow f (λ v u. flows ids (drawn v u arrows) ls (suc k)) (λ v u. flows ids (drawn u v (drawn v u arrows)) ls (suc k)) (λ e. refused e k) (got arrows (l ∷ ls) k) ≡ got arrows' ls' k'
         → Arrowed n (length ids) arrows'
-    go r (One v u) q h = let w = flow_good ids l v u (inl q) in r (drawn v u arrows) (arrow_more_lem p v u w.0 w.1 c) h
-    go r (Two v u) q h = let w = flow_good ids l v u (inr q) in r (drawn u v (drawn v u arrows)) (arrow_more_lem (arrow_more_lem p v u w.0 w.1 c) u v w.1 w.0 c) h
-    go r (Not e) q h = no_got h
-    go r Other q h = let e : arrows ≡ arrows' = cc in rw (← e) p
+    go r (Ok (Some (One v u))) q h = let w = flow_good ids l v u (inl q) in r (drawn v u arrows) (arrow_more_lem p v u w.0 w.1 c) h
+    go r (Ok (Some (Two v u))) q h = let w = flow_good ids l v u (inr q) in r (drawn u v (drawn v u arrows)) (arrow_more_lem (arrow_more_lem p v u w.0 w.1 c) u v w.1 w.0 c) h
+    go r (Err e) q h = no_got h
+    go r (Ok None) q h = let e : arrows ≡ arrows' = cc in rw (← e) p
 
 pub arrows_good : (ids : List ℕ) → length ids ≤ BOXES → (ls : List (List ℕ)) (k : ℕ) {arrows : List ℕ} {ls' : List (List ℕ)} {k' : ℕ} → flows ids (selves (length ids) (replicate BOXES 0)) ls k ≡ got arrows ls' k' → Arrowed (length ids) (length ids) arrows
 arrows_good ids c ls k h = arrows_kept ids c (length ids) (selves (length ids) (replicate BOXES 0)) ls k (selves_good (length ids) c) h

@@ -1,4 +1,7 @@
 -- A text is refused exactly where the table says: the first bad line decides, and in it the first row that holds. Assumes nothing.
+use Rattle.model.specs.declared.refusal.Refusal.{Refusal}
+use Rattle.model.specs.declared.refusal.Refusal.TheVariants as why
+use Rattle.std.specs.Prelude.{Ok, Err}
 use Prim.Native.Nat.{ℕ, ◌-◌, ◌*◌, ◌<◌}
 use mathlib.Core.Path.{◌≡◌, refl, sym, ap, ◌∙◌}
 use mathlib.Core.List.{List, [], ◌∷◌}
@@ -14,10 +17,8 @@ use Rattle.model.specs.Good.{GoodSizes}
 use Rattle.model.specs.declared.Sizes.{Sizes}
 use Rattle.text.specs.Lines.{lines}
 use Rattle.model.specs.Arrows.{selves}
-use Rattle.sheet.specs.declared.Record.{Record}
-use Rattle.sheet.specs.declared.Record.TheVariants.{Numbers, Not}
 use Rattle.sheet.specs.declared.Due.TheVariants as due
-use Rattle.sheet.specs.Numbers.{on_record}
+use Rattle.sheet.specs.Numbers.{Record, on_record}
 use Rattle.sheet.specs.Records.{sized, sheet_line}
 use Rattle.sheet.specs.Phases.{Got, got, refused, Steps, steps, boxes, acts, goes, flows, views}
 use Rattle.sheet.specs.Reading.{zeros, on_got, drawn_as, drawing, Parts, parts_as, parts, Reading, model, refusal, finish, sheet_lines, sheet_text}
@@ -32,7 +33,7 @@ use Rattle.sheet.proofs.Walk.{boxes_walk, acts_walk, goes_walk, flows_walk, view
 -- how reading ends, but for what was read: no line may follow the last
 fin : {S : Type 0} → Got S → Judged
 fin (got s [] n) = fine
-fin (got s (l ∷ ls) n) = refused_at 2 n
+fin (got s (l ∷ ls) n) = refused_at why.Record n
 fin (refused e n) = refused_at e n
 
 at_end_lem : {S : Type 0} (s : S) (ls : List (List ℕ)) (n : ℕ) → walk at_end ls n ≡ fin (got s ls n)
@@ -86,25 +87,25 @@ sheet_walk t v [] = refl
 sheet_walk t v (l ∷ ls) = rw (sym (by_rows_lem due.Sheet [] l)) (go (sheet_line l) refl)
   where
     go : (r : Record) → sheet_line l ≡ r → on_record r (λ a b c d. walk (after at_sheet l a b c d) ls 2) (λ e. refused_at e 1) ≡ judged_of (on_record r (λ a b c d. finish (parts a b c t v ls 2) (model (sizes_from a b c d))) (λ e. refusal e 1))
-    go (Numbers a b c d) q = parts_walk (sizes_from a b c d) (sheet_good l q) t v ls 2 ∙ finished (parts a b c t v ls 2) (sizes_from a b c d)
-    go (Not e) q = refl
+    go (Ok ns) q = parts_walk (sizes_from ns.first ns.second ns.third ns.fourth) (sheet_good l q) t v ls 2 ∙ finished (parts ns.first ns.second ns.third t v ls 2) (sizes_from ns.first ns.second ns.third ns.fourth)
+    go (Err e) q = refl
 
 -- the theorem
-pub refused_means : (t : List ℕ) (e n : ℕ) → sheet_text t ≡ refusal e n → RefusedText t e n
+pub refused_means : (t : List ℕ) (e : Refusal) (n : ℕ) → sheet_text t ≡ refusal e n → RefusedText t e n
 unfolding sheet_text judged_of
 refused_means t e n h = go (sized SHEET_BYTES (length t) && eqb (get_or t (length t - 1) 0) 10) refl h
   where
     go : (u : Bool) → (sized SHEET_BYTES (length t) && eqb (get_or t (length t - 1) 0) 10) ≡ u
-        → cond u (sheet_lines (steps (zeros NEXT_ENTRIES) (zeros OUTPUT_ENTRIES)) (zeros VIEW_ENTRIES) (lines t)) (refusal 1 0) ≡ refusal e n → RefusedText t e n
+        → cond u (sheet_lines (steps (zeros NEXT_ENTRIES) (zeros OUTPUT_ENTRIES)) (zeros VIEW_ENTRIES) (lines t)) (refusal why.Text 0) ≡ refusal e n → RefusedText t e n
     go true q h = by_line q (meant at_sheet (lines t) 1 e n (sheet_walk (steps (zeros NEXT_ENTRIES) (zeros OUTPUT_ENTRIES)) (zeros VIEW_ENTRIES) (lines t) ∙ ap judged_of h))
-    go false q h = let u : 1 ≡ e = cc in let v : 0 ≡ n = cc in rw (← u, ← v) (whole q)
+    go false q h = let u : why.Text ≡ e = cc in let v : 0 ≡ n = cc in rw (← u, ← v) (whole q)
 
-back : (r : Reading) (e n : ℕ) → judged_of r ≡ refused_at e n → r ≡ refusal e n
+back : (r : Reading) (e : Refusal) (n : ℕ) → judged_of r ≡ refused_at e n → r ≡ refusal e n
 unfolding judged_of
 back (model z p) e n h = let d : ◌≡◌ {A = ℕ} 0 1 = cc in absurd (omega arith)
 back (refusal e' n') e n h = cc
 
-pub means_refused : (t : List ℕ) (e n : ℕ) → RefusedText t e n → sheet_text t ≡ refusal e n
+pub means_refused : (t : List ℕ) (e : Refusal) (n : ℕ) → RefusedText t e n → sheet_text t ≡ refusal e n
 unfolding sheet_text
 means_refused t e n (whole q) = rw q
 means_refused t e n (by_line q r) = rw q (back (sheet_lines (steps (zeros NEXT_ENTRIES) (zeros OUTPUT_ENTRIES)) (zeros VIEW_ENTRIES) (lines t)) e n (sym (sheet_walk (steps (zeros NEXT_ENTRIES) (zeros OUTPUT_ENTRIES)) (zeros VIEW_ENTRIES) (lines t)) ∙ refuses at_sheet (lines t) 1 e n r))

@@ -1,4 +1,6 @@
 -- The phases, walked from line to line. Assumes nothing.
+use Rattle.model.specs.declared.refusal.Refusal.{Refusal}
+use Rattle.std.specs.Prelude.{Ok, Err, Some}
 use Prim.Native.Nat.{ℕ, zero, suc, ◌+◌, ◌*◌, ◌/◌, ◌%◌, ◌<◌}
 use mathlib.Core.Path.{◌≡◌, refl, sym, ap, ◌∙◌}
 use mathlib.Core.List.{List, [], ◌∷◌}
@@ -10,12 +12,10 @@ use Rattle.model.specs.Limits.{BOXES, ACTIONS}
 use Rattle.model.specs.declared.Sizes.{Sizes}
 use Rattle.text.specs.Lines.{same}
 use Rattle.model.specs.Arrows.{drawn}
-use Rattle.sheet.specs.declared.Record.{Record}
-use Rattle.sheet.specs.declared.Record.TheVariants.{Numbers, Not}
 use Rattle.sheet.specs.declared.Due.TheVariants as due
-use Rattle.sheet.specs.declared.Flow.TheVariants as flow
+use Rattle.sheet.specs.declared.Arrows.TheVariants as flow
 use Rattle.sheet.specs.Words as words
-use Rattle.sheet.specs.Numbers.{on_record, word}
+use Rattle.sheet.specs.Numbers.{Record, on_record, word}
 use Rattle.sheet.specs.Records.{box_line, act_line, go_line, view_line, arrow_line, flow_line, on_flow}
 use Rattle.sheet.specs.Phases.{Got, got, refused, phase, boxes, acts, Steps, steps, goes, flows, views}
 use Rattle.sheet.specs.Table.{Row, by_rows}
@@ -60,8 +60,8 @@ module _ {S : Type 0} (line : ℕ → S → List ℕ → Record) (store : ℕ �
           → ((s : S) → walk (σ (suc k) s) ls (suc n) ≡ on_judged (phase line store left (suc k) s ls (suc n)) (λ s ls n. walk (σ total s) ls n))
           → on_record r (λ a b c d. walk (after (σ k s) l a b c d) ls (suc n)) (λ e. refused_at e n)
           ≡ on_judged (on_record r (λ a b c d. phase line store left (suc k) (store k s a b c d) ls (suc n)) (λ e. refused e n)) (λ s ls n. walk (σ total s) ls n)
-      go (Numbers a b c d) f i = ap (λ (x : Situation). walk x ls (suc n)) (f a b c d) ∙ i (store k s a b c d)
-      go (Not e) f i = refl
+      go (Ok ns) f i = ap (λ (x : Situation). walk x ls (suc n)) (f ns.first ns.second ns.third ns.fourth) ∙ i (store k s ns.first ns.second ns.third ns.fourth)
+      go (Err e) f i = refl
 
 module _ (z : Sizes) where
   box_kind : (k : ℕ) (ids : List ℕ) → k < z.boxes → Kind (λ k ids. box_line (take k ids)) (λ k ids id _ _ _. set ids k id) (boxes_from z) k ids
@@ -124,16 +124,16 @@ module _ (z : Sizes) where
         where
           go : (r : Record) → on_record r (λ a b c d. walk (after (at_flow z ids) l a b c d) ls (suc n)) (λ e. refused_at e n)
               ≡ on_judged (on_record r (λ v u _ _. f v u) (λ e. refused e n)) (λ _ ls n. walk (views_from z ids 0) ls n)
-          go (Numbers a b c d) = rw q (i a b)
-          go (Not x) = refl
+          go (Ok ns) = rw q (i ns.first ns.second)
+          go (Err x) = refl
 
-      on_one : (r : Record) (f g : ℕ → ℕ → Got (List ℕ)) (h : ℕ → Got (List ℕ)) (o : Got (List ℕ)) → on_flow (on_record r (λ v u _ _. flow.One v u) flow.Not) f g h o ≡ on_record r (λ v u _ _. f v u) h
-      on_one (Numbers a b c d) f g h o = refl
-      on_one (Not x) f g h o = refl
+      on_one : (r : Record) (f g : ℕ → ℕ → Got (List ℕ)) (h : Refusal → Got (List ℕ)) (o : Got (List ℕ)) → on_flow (on_record r (λ v u _ _. Ok (Some (flow.One v u))) Err) f g h o ≡ on_record r (λ v u _ _. f v u) h
+      on_one (Ok ns) f g h o = refl
+      on_one (Err x) f g h o = refl
 
-      on_two : (r : Record) (f g : ℕ → ℕ → Got (List ℕ)) (h : ℕ → Got (List ℕ)) (o : Got (List ℕ)) → on_flow (on_record r (λ v u _ _. flow.Two v u) flow.Not) f g h o ≡ on_record r (λ v u _ _. g v u) h
-      on_two (Numbers a b c d) f g h o = refl
-      on_two (Not x) f g h o = refl
+      on_two : (r : Record) (f g : ℕ → ℕ → Got (List ℕ)) (h : Refusal → Got (List ℕ)) (o : Got (List ℕ)) → on_flow (on_record r (λ v u _ _. Ok (Some (flow.Two v u))) Err) f g h o ≡ on_record r (λ v u _ _. g v u) h
+      on_two (Ok ns) f g h o = refl
+      on_two (Err x) f g h o = refl
 
       flows_one : (arrows : List ℕ) (l : List ℕ) (ls : List (List ℕ)) (n : ℕ) → same (word l) words.flow ≡ true → on_record (arrow_line words.flow ids l) (λ v u _ _. flows ids (drawn v u arrows) ls (suc n)) (λ e. refused e n) ≡ flows ids arrows (l ∷ ls) n
       unfolding flows flow_line

@@ -4,11 +4,11 @@ use Rattle.model.specs.Limits.{BOXES, SHEET_BYTES}
 use Rattle.model.specs.Made.{sizes_from}
 use Rattle.model.specs.declared.Sizes.{Sizes}
 use Rattle.text.specs.Lines.{lines, same}
-use Rattle.sheet.specs.declared.Record.{Record}
-use Rattle.sheet.specs.declared.Record.TheVariants.{Numbers}
+use Rattle.model.specs.declared.refusal.Refusal.{Refusal}
+use Rattle.model.specs.declared.refusal.Refusal.TheVariants as why
 use Rattle.sheet.specs.declared.Due.TheVariants as due
 use Rattle.sheet.specs.Words as words
-use Rattle.sheet.specs.Numbers.{word}
+use Rattle.sheet.specs.Numbers.{Record, said, word}
 use Rattle.sheet.specs.Records.{arrow_limits, sized}
 use Rattle.sheet.specs.Table.{Row, row, opening, arrow_more, arrow_says, rows, says}
 
@@ -50,7 +50,7 @@ rows_at (at_flow z ids) l =
     (cond (same (word l) words.both) (opening words.both arrow_limits l ++ arrow_more ids l)
     (rows (due.View (get_or ids (0 / z.states) 0) (0 % z.states)) ids l))
 rows_at (at_view z ids k) l = rows (due.View (get_or ids (k / z.states) 0) (k % z.states)) ids l
-rows_at at_end l = row 2 true ∷ []
+rows_at at_end l = row why.Record true ∷ []
 
 -- what a line says to which none of them applies
 abbrev pub says_at : Situation → List ℕ → Record
@@ -61,7 +61,7 @@ says_at (at_go z ids k) l = says (due.Go z.states (k / z.actions) (k % z.actions
 says_at (at_flow z ids) l =
     cond (is_arrow l) (arrow_says ids l) (says (due.View (get_or ids (0 / z.states) 0) (0 % z.states)) ids l)
 says_at (at_view z ids k) l = says (due.View (get_or ids (k / z.states) 0) (k % z.states)) ids l
-says_at at_end l = Numbers 0 0 0 0
+says_at at_end l = said 0 0 0 0
 
 -- what is due after a line that said a, b, c, d
 abbrev pub after : Situation → List ℕ → ℕ → ℕ → ℕ → ℕ → Situation
@@ -83,23 +83,23 @@ complete (at_flow z ids) = false
 complete (at_view z ids k) = false
 complete at_end = true
 
--- row n is the first that holds
-pub data FirstRow : List Row → ℕ → Type 0 where
-  here : {x : Row} {xs : List Row} → x.holds ≡ true → FirstRow (x ∷ xs) x.number
-  later : {x : Row} {xs : List Row} {n : ℕ} → x.holds ≡ false → FirstRow xs n → FirstRow (x ∷ xs) n
+-- the row of the refusal is the first that holds
+pub data FirstRow : List Row → Refusal → Type 0 where
+  here : {x : Row} {xs : List Row} → x.holds ≡ true → FirstRow (x ∷ xs) x.refusal
+  later : {x : Row} {xs : List Row} {e : Refusal} → x.holds ≡ false → FirstRow xs e → FirstRow (x ∷ xs) e
 
 -- no row holds
 pub data NoRow : List Row → Type 0 where
   none : NoRow []
   more : {x : Row} {xs : List Row} → x.holds ≡ false → NoRow xs → NoRow (x ∷ xs)
 
--- lines of which the first has the number n are refused by row e at line m: the text ends while a record is due, or this line is bad, or it is good and a later one is refused
-pub data Refused : Situation → List (List ℕ) → ℕ → ℕ → ℕ → Type 0 where
-  ended : {s : Situation} {n : ℕ} → complete s ≡ false → Refused s [] n 11 n
-  bad : {s : Situation} {l : List ℕ} {ls : List (List ℕ)} {n e : ℕ} → FirstRow (rows_at s l) e → Refused s (l ∷ ls) n e n
-  good : {s : Situation} {l : List ℕ} {ls : List (List ℕ)} {n e m : ℕ} (a b c d : ℕ) → NoRow (rows_at s l) → says_at s l ≡ Numbers a b c d → Refused (after s l a b c d) ls (suc n) e m → Refused s (l ∷ ls) n e m
+-- lines of which the first has the number n are refused by the row of e at line m: the text ends while a record is due, or this line is bad, or it is good and a later one is refused
+pub data Refused : Situation → List (List ℕ) → ℕ → Refusal → ℕ → Type 0 where
+  ended : {s : Situation} {n : ℕ} → complete s ≡ false → Refused s [] n why.Ended n
+  bad : {s : Situation} {l : List ℕ} {ls : List (List ℕ)} {n : ℕ} {e : Refusal} → FirstRow (rows_at s l) e → Refused s (l ∷ ls) n e n
+  good : {s : Situation} {l : List ℕ} {ls : List (List ℕ)} {n m : ℕ} {e : Refusal} (a b c d : ℕ) → NoRow (rows_at s l) → says_at s l ≡ said a b c d → Refused (after s l a b c d) ls (suc n) e m → Refused s (l ∷ ls) n e m
 
 -- a text is refused: as a whole, or by its lines, of which the first is due to be the `sheet` line
-pub data RefusedText (t : List ℕ) : ℕ → ℕ → Type 0 where
-  whole : (sized SHEET_BYTES (length t) && eqb (get_or t (length t - 1) 0) 10) ≡ false → RefusedText t 1 0
-  by_line : {e n : ℕ} → (sized SHEET_BYTES (length t) && eqb (get_or t (length t - 1) 0) 10) ≡ true → Refused at_sheet (lines t) 1 e n → RefusedText t e n
+pub data RefusedText (t : List ℕ) : Refusal → ℕ → Type 0 where
+  whole : (sized SHEET_BYTES (length t) && eqb (get_or t (length t - 1) 0) 10) ≡ false → RefusedText t why.Text 0
+  by_line : {e : Refusal} {n : ℕ} → (sized SHEET_BYTES (length t) && eqb (get_or t (length t - 1) 0) 10) ≡ true → Refused at_sheet (lines t) 1 e n → RefusedText t e n

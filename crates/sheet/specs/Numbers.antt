@@ -1,28 +1,36 @@
 -- A record of a word and up to four numbers.
-use Rattle.std.specs.Prelude.{ℕ, suc, List, [], ◌∷◌, cond, length, get_or, set, drop, replicate, eqb}
+use Rattle.std.specs.Prelude.{ℕ, suc, List, [], ◌∷◌, cond, length, get_or, set, drop, replicate, eqb, Result, Ok, Err}
 use Rattle.text.specs.Number.{number, on_number}
 use Rattle.text.specs.Lines.{fields, same}
-use Rattle.sheet.specs.declared.Record.{Record}
-use Rattle.sheet.specs.declared.Record.TheVariants.{Numbers, Not}
+use Rattle.model.specs.declared.refusal.Refusal.{Refusal}
+use Rattle.model.specs.declared.refusal.Refusal.TheVariants as why
+use Rattle.sheet.specs.declared.Numbers.{Numbers}
+
+-- the numbers of a record, 0 beyond its count; or why it is refused
+abbrev pub Record : Type 0
+Record = Result Numbers Refusal
+
+abbrev pub said : ℕ → ℕ → ℕ → ℕ → Record
+said a b c d = Ok (record { first = a; second = b; third = c; fourth = d })
 
 -- what becomes of a record that is good, and of one that is refused
-abbrev pub on_record : {A : Type 0} → Record → (ℕ → ℕ → ℕ → ℕ → A) → (ℕ → A) → A
-on_record (Numbers a b c d) f z = f a b c d
-on_record (Not e) f z = z e
+abbrev pub on_record : {A : Type 0} → Record → (ℕ → ℕ → ℕ → ℕ → A) → (Refusal → A) → A
+on_record (Ok v) f z = f v.first v.second v.third v.fourth
+on_record (Err e) f z = z e
 
 -- four values as a record
 abbrev pub four : List ℕ → Record
-four vs = Numbers (get_or vs 0 0) (get_or vs 1 0) (get_or vs 2 0) (get_or vs 3 0)
+four vs = said (get_or vs 0 0) (get_or vs 1 0) (get_or vs 2 0) (get_or vs 3 0)
 
--- each field is a number up to its limit, from left to right, or 4; the values go from place k on
+-- each field is a number up to its limit, from left to right, or `Number`; the values go from place k on
 unfoldable pub each : List ℕ → List (List ℕ) → ℕ → List ℕ → Record
 each [] fs k vs = four vs
-each (m ∷ ms) [] k vs = Not 3
-each (m ∷ ms) (f ∷ fs) k vs = on_number (number m f) (λ v. each ms fs (suc k) (set vs k v)) (Not 4)
+each (m ∷ ms) [] k vs = Err why.Fields
+each (m ∷ ms) (f ∷ fs) k vs = on_number (number m f) (λ v. each ms fs (suc k) (set vs k v)) (Err why.Number)
 
--- as many fields as limits, or 3; then the numbers
+-- as many fields as limits, or `Fields`; then the numbers
 unfoldable pub numbers : List ℕ → List (List ℕ) → Record
-numbers limits fs = cond (eqb (length fs) (length limits)) (each limits fs 0 (replicate 4 0)) (Not 3)
+numbers limits fs = cond (eqb (length fs) (length limits)) (each limits fs 0 (replicate 4 0)) (Err why.Fields)
 
 -- the first field of a line, and those after it
 abbrev pub word : List ℕ → List ℕ
@@ -31,6 +39,6 @@ word l = get_or (fields l) 0 []
 abbrev pub rest : List ℕ → List (List ℕ)
 rest l = drop 1 (fields l)
 
--- the word that is due, or 2; then the numbers
+-- the word that is due, or `Record`; then the numbers
 unfoldable pub record_of : List ℕ → List ℕ → List ℕ → Record
-record_of w limits l = cond (same (word l) w) (numbers limits (rest l)) (Not 2)
+record_of w limits l = cond (same (word l) w) (numbers limits (rest l)) (Err why.Record)

@@ -1,25 +1,27 @@
 -- Runs of lines of one kind.
-use Rattle.std.specs.Prelude.{ℕ, zero, suc, ◌+◌, ◌*◌, ◌/◌, ◌%◌, ◌≤◌, List, [], ◌∷◌, cond, length, get_or, set, take, drop, replicate, ltb}
+use Rattle.std.specs.Prelude.{ℕ, zero, suc, ◌+◌, ◌*◌, ◌/◌, ◌%◌, List, [], ◌∷◌, cond, length, get_or, set, take, drop, replicate, ltb, Result, Ok, Err}
 use Rattle.model.specs.Arrows.{drawn}
 use Rattle.model.specs.Limits.{ACTIONS, BOXES}
 use Rattle.text.specs.Lines.{lines, end_of, line_at}
-use Rattle.sheet.specs.declared.Record.{Record}
+use Rattle.model.specs.declared.refusal.Refusal.{Refusal}
+use Rattle.model.specs.declared.refusal.Refusal.TheVariants as why
+use Rattle.model.specs.declared.refusal.Refused.{Refused}
+use Rattle.model.specs.Refusal.{refused_as}
+use Rattle.sheet.specs.declared.cursor.Cursor.{Cursor}
+use Rattle.sheet.specs.declared.Run.{Run}
 use Rattle.sheet.specs.declared.Taken.{Taken}
-use Rattle.sheet.specs.declared.Taken.TheVariants.{Took, Stopped}
-use Rattle.sheet.specs.declared.Phase.{Phase}
-use Rattle.sheet.specs.declared.Phase.TheVariants.{Done, Refused}
-use Rattle.sheet.specs.Numbers.{on_record}
+use Rattle.sheet.specs.Numbers.{Record, on_record}
 use Rattle.sheet.specs.Records.{box_line, act_line, go_line, view_line, flow_line, on_flow}
 
 -- how a run of lines ends: with what was read, the lines left and the number of the next one; or with a refusal
 pub data Got (S : Type 0) : Type 0 where
   got : S → List (List ℕ) → ℕ → Got S
-  refused : ℕ → ℕ → Got S
+  refused : Refusal → ℕ → Got S
 
 -- `left` lines are due, from entry k on; the first has the number n
 unfoldable pub phase : {S : Type 0} → (ℕ → S → List ℕ → Record) → (ℕ → S → ℕ → ℕ → ℕ → ℕ → S) → ℕ → ℕ → S → List (List ℕ) → ℕ → Got S
 phase line store zero k s ls n = got s ls n
-phase line store (suc left) k s [] n = refused 11 n
+phase line store (suc left) k s [] n = refused why.Ended n
 phase line store (suc left) k s (l ∷ ls) n =
     on_record (line k s l)
     (λ a b c d. phase line store left (suc k) (store k s a b c d) ls (suc n))
@@ -66,19 +68,22 @@ abbrev pub views : List ℕ → ℕ → List ℕ → List (List ℕ) → ℕ →
 views ids states =
     phase (λ k _. view_line (get_or ids (k / states) 0) (k % states)) (λ k t _ _ class _. set t k class) (length ids * states) 0
 
--- the line at a place of a text, which ends where a line is due or has it, as the code takes it
-abbrev pub taken_by : (List ℕ → Record) → List ℕ → ℕ → Taken
-taken_by line t at =
+-- a record, with the place after its line
+abbrev pub taken : ℕ → ℕ → ℕ → ℕ → ℕ → Taken
+taken a b c d next = record { numbers = record { first = a; second = b; third = c; fourth = d }; next = next }
+
+-- the line at a place of a text, which has the number n, as the code takes it; `Ended` where the text has no line more
+abbrev pub taken_by : (List ℕ → Record) → List ℕ → ℕ → ℕ → Result Taken Refused
+taken_by line t at n =
     cond (ltb at (length t))
-    (on_record (line (line_at t at)) (λ a b c d. Took a b c d (end_of 10 t at + 1)) Stopped)
-    (Stopped 11)
+    (on_record (line (line_at t at)) (λ a b c d. Ok (taken a b c d (end_of 10 t at + 1))) (λ e. Err (refused_as e n)))
+    (Err (refused_as why.Ended n))
 
 -- what the code's answer and what it read say of a text
-abbrev pub told : {S : Type 0} → Phase → List ℕ → S → Got S
-told (Done at n) t s = got s (lines (drop at t)) n
-told (Refused e n) t s = refused e n
+abbrev pub told : {S : Type 0} → Result Cursor Refused → List ℕ → S → Got S
+told (Ok c) t s = got s (lines (drop c.at t)) c.line
+told (Err r) t s = refused r.refusal r.line
 
--- a line has at least one byte, so its number is at most one over its place
-abbrev pub Few : Phase → Type 0
-Few (Done at n) = n ≤ at + 1
-Few (Refused e n) = Unit {0}
+abbrev pub told_run : {S : Type 0} → Result (Run S) Refused → List ℕ → Got S
+told_run (Ok r) t = got r.read (lines (drop r.next.at t)) r.next.line
+told_run (Err r) t = refused r.refusal r.line

@@ -1,14 +1,15 @@
 -- A whole sheet.
-use Rattle.std.specs.Prelude.{ℕ, ◌-◌, List, [], ◌∷◌, cond, ◌&&◌, length, get_or, take, replicate, eqb}
+use Rattle.std.specs.Prelude.{ℕ, ◌-◌, List, [], ◌∷◌, cond, ◌&&◌, length, get_or, take, replicate, eqb, Result, Ok, Err}
 use Rattle.model.specs.Arrows.{selves}
-use Rattle.model.specs.Limits.{ACTIONS, BOXES, NEXT_ENTRIES, OUTPUT_ENTRIES, VIEW_ENTRIES, SHEET_BYTES}
+use Rattle.model.specs.Limits.{BOXES, NEXT_ENTRIES, OUTPUT_ENTRIES, VIEW_ENTRIES, SHEET_BYTES}
 use Rattle.model.specs.Made.{sizes_from, machine_from, model_from}
 use Rattle.model.specs.declared.Model as models
 use Rattle.model.specs.declared.Sizes.{Sizes}
 use Rattle.text.specs.Lines.{lines}
-use Rattle.sheet.specs.declared.Answer.{Answer}
-use Rattle.sheet.specs.declared.Answer.TheVariants.{Model, Refused}
-use Rattle.sheet.specs.declared.Sheet.{Sheet}
+use Rattle.model.specs.declared.refusal.Refusal.{Refusal}
+use Rattle.model.specs.declared.refusal.Refusal.TheVariants as why
+use Rattle.model.specs.declared.refusal.Refused.{Refused}
+use Rattle.model.specs.Refusal.{refused_as}
 use Rattle.sheet.specs.Numbers.{on_record}
 use Rattle.sheet.specs.Records.{sized, sheet_line}
 use Rattle.sheet.specs.Phases.{Got, got, refused, Steps, steps, boxes, acts, goes, flows, views}
@@ -59,17 +60,17 @@ model_of z p = model_from (machine_from z p.owners) p.ids p.drawn.arrows
 -- what a text says: the sizes and the parts of a model; or a refusal
 pub data Reading : Type 0 where
   model : Sizes → Parts → Reading
-  refusal : ℕ → ℕ → Reading
+  refusal : Refusal → ℕ → Reading
 
 -- no line may follow the last
 abbrev pub finish : Got Parts → (Parts → Reading) → Reading
 finish (got p [] n) f = f p
-finish (got p (l ∷ ls) n) f = refusal 2 n
+finish (got p (l ∷ ls) n) f = refusal why.Record n
 finish (refused e n) f = refusal e n
 
 -- the lines of a sheet, over empty tables
 unfoldable pub sheet_lines : Steps → List ℕ → List (List ℕ) → Reading
-sheet_lines t v [] = refusal 11 1
+sheet_lines t v [] = refusal why.Ended 1
 sheet_lines t v (l ∷ ls) =
     on_record (sheet_line l)
     (λ states actions count start. finish (parts states actions count t v ls 2) (model (sizes_from states actions count start)))
@@ -79,51 +80,37 @@ sheet_lines t v (l ∷ ls) =
 unfoldable pub zeros : ℕ → List ℕ
 zeros n = replicate n 0
 
--- a text of 1 to 32,768 bytes whose last is LF, or 1
+-- a text of 1 to 32,768 bytes whose last is LF, or `Text`
 unfoldable pub sheet_text : List ℕ → Reading
 sheet_text t =
     cond (sized SHEET_BYTES (length t) && eqb (get_or t (length t - 1) 0) 10)
     (sheet_lines (steps (zeros NEXT_ENTRIES) (zeros OUTPUT_ENTRIES)) (zeros VIEW_ENTRIES) (lines t))
-    (refusal 1 0)
+    (refusal why.Text 0)
 
 -- what the reader gives back, and what the tables then hold
 pub record Outcome : Type 0 where
-  pub sheet : Sheet
+  pub answer : Result models.Model Refused
   pub next : List ℕ
   pub outputs : List ℕ
   pub views : List ℕ
 
-abbrev pub outcome : Sheet → List ℕ → List ℕ → List ℕ → Outcome
-outcome s next outputs views = record { sheet = s; next = next; outputs = outputs; views = views }
-
-abbrev pub sheet_as : Answer → List ℕ → List ℕ → List ℕ → Sheet
-sheet_as a ids owners arrows = record { answer = a; ids = ids; owners = owners; arrows = arrows }
-
--- a refused sheet: every other number is 0, and there is no arrow
-abbrev pub refused_as : ℕ → ℕ → Sheet
-refused_as e n = sheet_as (Refused e n) (replicate BOXES 0) (replicate ACTIONS 0) (replicate BOXES 0)
+abbrev pub outcome : Result models.Model Refused → List ℕ → List ℕ → List ℕ → Outcome
+outcome a next outputs views = record { answer = a; next = next; outputs = outputs; views = views }
 
 -- a refusal makes the tables zero
 abbrev pub given : Reading → Outcome
-given (model z p) =
-    outcome (sheet_as (Model z) p.ids p.owners p.drawn.arrows)
-    p.drawn.steps.next
-    p.drawn.steps.outputs
-    p.drawn.views
+given (model z p) = outcome (Ok (model_of z p)) p.drawn.steps.next p.drawn.steps.outputs p.drawn.views
 given (refusal e n) =
-    outcome (refused_as e n) (zeros NEXT_ENTRIES) (zeros OUTPUT_ENTRIES) (zeros VIEW_ENTRIES)
+    outcome (Err (refused_as e n)) (zeros NEXT_ENTRIES) (zeros OUTPUT_ENTRIES) (zeros VIEW_ENTRIES)
 
--- the whole call: 10 where a table has the wrong length, and the tables are then as they were
+-- the whole call: `Length` where a table has the wrong length, and the tables are then as they were
 unfoldable pub read : List ℕ → List ℕ → List ℕ → List ℕ → Outcome
 read t next outputs views =
     cond (eqb (length next) NEXT_ENTRIES && eqb (length outputs) OUTPUT_ENTRIES && eqb (length views) VIEW_ENTRIES)
     (given (sheet_text t))
-    (outcome (refused_as 10 0) next outputs views)
+    (outcome (Err (refused_as why.Length 0)) next outputs views)
 
--- what the code's sheet says, with the tables
-abbrev pub reading_of : Answer → Parts → Reading
-reading_of (Model z) p = model z p
-reading_of (Refused e n) p = refusal e n
-
-abbrev pub parts_of : Sheet → List ℕ → List ℕ → List ℕ → Parts
-parts_of s next outputs views = parts_as s.ids s.owners (drawn_as (steps next outputs) s.arrows views)
+-- what the code's answer says, with the tables
+abbrev pub reading_of : Result models.Model Refused → Steps → List ℕ → Reading
+reading_of (Ok m) t v = model m.machine.sizes (parts_as m.ids m.machine.owners (drawn_as t m.arrows v))
+reading_of (Err r) t v = refusal r.refusal r.line

@@ -1,17 +1,16 @@
--- The lines of a sheet, each by itself: the numbers that it says, with ids turned into positions, or the number of its refusal.
-use Rattle.std.specs.Prelude.{ℕ, List, [], ◌∷◌, Bool, true, cond, ◌&&◌, length, get_or, ltb, leb, eqb}
+-- The lines of a sheet, each by itself: the numbers that it says, with ids turned into positions, or why it is refused.
+use Rattle.std.specs.Prelude.{ℕ, List, [], ◌∷◌, Bool, true, cond, ◌&&◌, length, get_or, ltb, leb, eqb, Result, Ok, Err, Option, Some, None}
 use Rattle.model.specs.Limits.{STATES, ACTIONS, BOXES, LARGEST_ID, LARGEST_NUMBER, LABEL_BYTES}
-use Rattle.text.specs.declared.Number.{Number}
 use Rattle.text.specs.Number.{number, on_number}
 use Rattle.text.specs.Lines.{before, same}
-use Rattle.sheet.specs.declared.Record.{Record}
-use Rattle.sheet.specs.declared.Record.TheVariants.{Numbers, Not}
+use Rattle.model.specs.declared.refusal.Refusal.{Refusal}
+use Rattle.model.specs.declared.refusal.Refusal.TheVariants as why
 use Rattle.sheet.specs.declared.Due.{Due}
 use Rattle.sheet.specs.declared.Due.TheVariants as due
-use Rattle.sheet.specs.declared.Flow.{Flow}
-use Rattle.sheet.specs.declared.Flow.TheVariants as flow
+use Rattle.sheet.specs.declared.Arrows.{Arrows}
+use Rattle.sheet.specs.declared.Arrows.TheVariants as flow
 use Rattle.sheet.specs.Words as words
-use Rattle.sheet.specs.Numbers.{on_record, word, rest, record_of}
+use Rattle.sheet.specs.Numbers.{Record, said, on_record, word, rest, record_of}
 
 -- a size is 1 to its limit
 abbrev pub sized : ℕ → ℕ → Bool
@@ -54,68 +53,72 @@ sheet_line l =
     on_record (record_of words.sheet sheet_limits l)
     (λ states actions boxes start.
     cond (sized STATES states && sized ACTIONS actions && sized BOXES boxes)
-    (cond (ltb start states) (Numbers states actions boxes start) (Not 6))
-    (Not 5))
-    Not
+    (cond (ltb start states) (said states actions boxes start) (Err why.Order))
+    (Err why.Size))
+    Err
 
 -- the id and the label of a box, after boxes with the ids given
-abbrev pub box_of : List ℕ → Number → List ℕ → Record
+abbrev pub box_of : List ℕ → Option ℕ → List ℕ → Record
 box_of ids n label =
     on_number n
-    (λ id. cond (known ids id) (Not 7) (cond (label_good label) (Numbers id 0 0 0) (Not 9)))
-    (Not 4)
+    (λ id. cond (known ids id) (Err why.SameId) (cond (label_good label) (said id 0 0 0) (Err why.Label)))
+    (Err why.Number)
 
 abbrev pub box_fields : List ℕ → List (List ℕ) → Record
 box_fields ids fs =
-    cond (eqb (length fs) 2) (box_of ids (number LARGEST_ID (get_or fs 0 [])) (get_or fs 1 [])) (Not 3)
+    cond (eqb (length fs) 2) (box_of ids (number LARGEST_ID (get_or fs 0 [])) (get_or fs 1 [])) (Err why.Fields)
 
 -- `box`, id, label
 unfoldable pub box_line : List ℕ → List ℕ → Record
-box_line ids l = cond (same (word l) words.box) (box_fields ids (rest l)) (Not 2)
+box_line ids l = cond (same (word l) words.box) (box_fields ids (rest l)) (Err why.Record)
 
 -- `act`, box id: the box's position
 unfoldable pub act_line : List ℕ → List ℕ → Record
 act_line ids l =
     on_record (record_of words.act act_limits l)
-    (λ id _ _ _. cond (known ids id) (Numbers (position ids id) 0 0 0) (Not 8))
-    Not
+    (λ id _ _ _. cond (known ids id) (said (position ids id) 0 0 0) (Err why.UnknownId))
+    Err
 
 -- `go`, state, action, next, output: the state and the action that are due, and a next state of the model
 unfoldable pub go_line : ℕ → ℕ → ℕ → List ℕ → Record
 go_line states state action l =
     on_record (record_of words.go go_limits l)
     (λ s a next output.
-    cond (eqb s state && eqb a action && ltb next states) (Numbers s a next output) (Not 6))
-    Not
+    cond (eqb s state && eqb a action && ltb next states) (said s a next output) (Err why.Order))
+    Err
 
 -- a word, id, id: the boxes' positions
 unfoldable pub arrow_line : List ℕ → List ℕ → List ℕ → Record
 arrow_line w ids l =
     on_record (record_of w arrow_limits l)
     (λ from to _ _.
-    cond (known ids from && known ids to) (Numbers (position ids from) (position ids to) 0 0) (Not 8))
-    Not
+    cond (known ids from && known ids to) (said (position ids from) (position ids to) 0 0) (Err why.UnknownId))
+    Err
+
+-- what a line says of arrows; nothing where it is another line
+abbrev pub Flow : Type 0
+Flow = Result (Option Arrows) Refusal
 
 -- `flow` is one arrow, `both` is two; any other line is left for later
 unfoldable pub flow_line : List ℕ → List ℕ → Flow
 flow_line ids l =
-    cond (same (word l) words.flow) (on_record (arrow_line words.flow ids l) (λ from to _ _. flow.One from to) flow.Not)
-    (cond (same (word l) words.both) (on_record (arrow_line words.both ids l) (λ from to _ _. flow.Two from to) flow.Not)
-    flow.Other)
+    cond (same (word l) words.flow) (on_record (arrow_line words.flow ids l) (λ from to _ _. Ok (Some (flow.One from to))) Err)
+    (cond (same (word l) words.both) (on_record (arrow_line words.both ids l) (λ from to _ _. Ok (Some (flow.Two from to))) Err)
+    (Ok None))
 
 -- what becomes of one arrow, of two, of a refused line, and of another line
-abbrev pub on_flow : {A : Type 0} → Flow → (ℕ → ℕ → A) → (ℕ → ℕ → A) → (ℕ → A) → A → A
-on_flow (flow.One v u) f g z o = f v u
-on_flow (flow.Two v u) f g z o = g v u
-on_flow (flow.Not e) f g z o = z e
-on_flow flow.Other f g z o = o
+abbrev pub on_flow : {A : Type 0} → Flow → (ℕ → ℕ → A) → (ℕ → ℕ → A) → (Refusal → A) → A → A
+on_flow (Ok (Some (flow.One v u))) f g z o = f v u
+on_flow (Ok (Some (flow.Two v u))) f g z o = g v u
+on_flow (Ok None) f g z o = o
+on_flow (Err e) f g z o = z e
 
 -- `view`, id, state, class: the id, then the state that is due
 unfoldable pub view_line : ℕ → ℕ → List ℕ → Record
 view_line id state l =
     on_record (record_of words.view view_limits l)
-    (λ i s class _. cond (eqb i id) (cond (eqb s state) (Numbers i s class 0) (Not 6)) (Not 8))
-    Not
+    (λ i s class _. cond (eqb i id) (cond (eqb s state) (said i s class 0) (Err why.Order)) (Err why.UnknownId))
+    Err
 
 -- the line that is due, after boxes with the ids given
 abbrev pub line_due : Due → List ℕ → List ℕ → Record

@@ -1,35 +1,34 @@
 -- The refusal table: for each kind of line its rows, in the order in which they are looked at.
-use Rattle.std.specs.Prelude.{ℕ, suc, List, [], ◌∷◌, ◌++◌, Bool, true, false, cond, not, ◌&&◌, ◌||◌, length, get_or, set, replicate, ltb, eqb}
+use Rattle.std.specs.Prelude.{ℕ, suc, List, [], ◌∷◌, ◌++◌, Bool, true, false, cond, not, ◌&&◌, ◌||◌, length, get_or, set, replicate, ltb, eqb, Err, Option}
 use Rattle.model.specs.Limits.{STATES, ACTIONS, BOXES, LARGEST_ID}
-use Rattle.text.specs.declared.Number.{Number}
 use Rattle.text.specs.Number.{number, on_number}
 use Rattle.text.specs.Lines.{same}
-use Rattle.sheet.specs.declared.Record.{Record}
-use Rattle.sheet.specs.declared.Record.TheVariants.{Numbers, Not}
+use Rattle.model.specs.declared.refusal.Refusal.{Refusal}
+use Rattle.model.specs.declared.refusal.Refusal.TheVariants as why
 use Rattle.sheet.specs.declared.Due.{Due}
 use Rattle.sheet.specs.declared.Due.TheVariants as due
 use Rattle.sheet.specs.Words as words
-use Rattle.sheet.specs.Numbers.{word, rest}
+use Rattle.sheet.specs.Numbers.{Record, said, word, rest}
 use Rattle.sheet.specs.Records.{sheet_limits, act_limits, go_limits, arrow_limits, view_limits, sized, known, position, label_good}
 
--- a row: the number of a refusal, and whether the line gives cause for it
+-- a row: a refusal, and whether the line gives cause for it
 pub record Row : Type 0 where
-  pub number : ℕ
+  pub refusal : Refusal
   pub holds : Bool
 
-abbrev pub row : ℕ → Bool → Row
-row n b = record { number = n; holds = b }
+abbrev pub row : Refusal → Bool → Row
+row e b = record { refusal = e; holds = b }
 
 -- the first row that holds decides; where none does, the line says r
 unfoldable pub by_rows : List Row → Record → Record
 by_rows [] r = r
-by_rows (x ∷ xs) r = cond x.holds (Not x.number) (by_rows xs r)
+by_rows (x ∷ xs) r = cond x.holds (Err x.refusal) (by_rows xs r)
 
 -- is a number bad; what it is, 0 where it is bad
-abbrev pub is_bad : Number → Bool
+abbrev pub is_bad : Option ℕ → Bool
 is_bad n = on_number n (λ _. false) true
 
-abbrev pub value_of : Number → ℕ
+abbrev pub value_of : Option ℕ → ℕ
 value_of n = on_number n (λ v. v) 0
 
 -- some field is no number up to its limit
@@ -48,65 +47,65 @@ values (m ∷ ms) (f ∷ fs) k vs = values ms fs (suc k) (set vs k (value_of (nu
 abbrev pub nth : List ℕ → List ℕ → ℕ → ℕ
 nth limits l k = get_or (values limits (rest l) 0 (replicate 4 0)) k 0
 
--- 2, then 3, then 4
+-- `Record`, then `Fields`, then `Number`
 abbrev pub opening : List ℕ → List ℕ → List ℕ → List Row
 opening w limits l =
-    row 2 (not (same (word l) w))
-    ∷ row 3 (not (eqb (length (rest l)) (length limits)))
-    ∷ row 4 (some_bad limits (rest l))
+    row why.Record (not (same (word l) w))
+    ∷ row why.Fields (not (eqb (length (rest l)) (length limits)))
+    ∷ row why.Number (some_bad limits (rest l))
     ∷ []
 
--- `sheet`: 5 for a size, then 6 for the start
+-- `sheet`: `Size`, then `Order` for the start
 abbrev pub sheet_more : List ℕ → List Row
 sheet_more l =
-    row 5 (not (sized STATES (nth sheet_limits l 0) && sized ACTIONS (nth sheet_limits l 1) && sized BOXES (nth sheet_limits l 2)))
-    ∷ row 6 (not (ltb (nth sheet_limits l 3) (nth sheet_limits l 0)))
+    row why.Size (not (sized STATES (nth sheet_limits l 0) && sized ACTIONS (nth sheet_limits l 1) && sized BOXES (nth sheet_limits l 2)))
+    ∷ row why.Order (not (ltb (nth sheet_limits l 3) (nth sheet_limits l 0)))
     ∷ []
 
 abbrev pub sheet_says : List ℕ → Record
-sheet_says l = Numbers (nth sheet_limits l 0) (nth sheet_limits l 1) (nth sheet_limits l 2) (nth sheet_limits l 3)
+sheet_says l = said (nth sheet_limits l 0) (nth sheet_limits l 1) (nth sheet_limits l 2) (nth sheet_limits l 3)
 
--- `act`: 8 for an unknown id
+-- `act`: an unknown id
 abbrev pub act_more : List ℕ → List ℕ → List Row
-act_more ids l = row 8 (not (known ids (nth act_limits l 0))) ∷ []
+act_more ids l = row why.UnknownId (not (known ids (nth act_limits l 0))) ∷ []
 
 abbrev pub act_says : List ℕ → List ℕ → Record
-act_says ids l = Numbers (position ids (nth act_limits l 0)) 0 0 0
+act_says ids l = said (position ids (nth act_limits l 0)) 0 0 0
 
--- `go`: 6 for a state or an action that is not due, or a next state that is none
+-- `go`: `Order` for a state or an action that is not due, or a next state that is none
 abbrev pub go_more : ℕ → ℕ → ℕ → List ℕ → List Row
 go_more states state action l =
-    row 6 (not (eqb (nth go_limits l 0) state && eqb (nth go_limits l 1) action && ltb (nth go_limits l 2) states)) ∷ []
+    row why.Order (not (eqb (nth go_limits l 0) state && eqb (nth go_limits l 1) action && ltb (nth go_limits l 2) states)) ∷ []
 
 abbrev pub go_says : List ℕ → Record
-go_says l = Numbers (nth go_limits l 0) (nth go_limits l 1) (nth go_limits l 2) (nth go_limits l 3)
+go_says l = said (nth go_limits l 0) (nth go_limits l 1) (nth go_limits l 2) (nth go_limits l 3)
 
--- `flow` and `both`: 8 for an unknown id
+-- `flow` and `both`: an unknown id
 abbrev pub arrow_more : List ℕ → List ℕ → List Row
-arrow_more ids l = row 8 (not (known ids (nth arrow_limits l 0) && known ids (nth arrow_limits l 1))) ∷ []
+arrow_more ids l = row why.UnknownId (not (known ids (nth arrow_limits l 0) && known ids (nth arrow_limits l 1))) ∷ []
 
 abbrev pub arrow_says : List ℕ → List ℕ → Record
-arrow_says ids l = Numbers (position ids (nth arrow_limits l 0)) (position ids (nth arrow_limits l 1)) 0 0
+arrow_says ids l = said (position ids (nth arrow_limits l 0)) (position ids (nth arrow_limits l 1)) 0 0
 
--- `view`: 8 for an id that is not due, then 6 for the state
+-- `view`: `UnknownId` for an id that is not due, then `Order` for the state
 abbrev pub view_more : ℕ → ℕ → List ℕ → List Row
 view_more id state l =
-    row 8 (not (eqb (nth view_limits l 0) id)) ∷ row 6 (not (eqb (nth view_limits l 1) state)) ∷ []
+    row why.UnknownId (not (eqb (nth view_limits l 0) id)) ∷ row why.Order (not (eqb (nth view_limits l 1) state)) ∷ []
 
 abbrev pub view_says : List ℕ → Record
-view_says l = Numbers (nth view_limits l 0) (nth view_limits l 1) (nth view_limits l 2) 0
+view_says l = said (nth view_limits l 0) (nth view_limits l 1) (nth view_limits l 2) 0
 
--- `box`: 7 for an id seen before, then 9 for the label
-abbrev pub box_id : List ℕ → Number
+-- `box`: an id seen before, then the label
+abbrev pub box_id : List ℕ → Option ℕ
 box_id l = number LARGEST_ID (get_or (rest l) 0 [])
 
 abbrev pub box_rows : List ℕ → List ℕ → List Row
 box_rows ids l =
-    row 2 (not (same (word l) words.box))
-    ∷ row 3 (not (eqb (length (rest l)) 2))
-    ∷ row 4 (is_bad (box_id l))
-    ∷ row 7 (known ids (value_of (box_id l)))
-    ∷ row 9 (not (label_good (get_or (rest l) 1 [])))
+    row why.Record (not (same (word l) words.box))
+    ∷ row why.Fields (not (eqb (length (rest l)) 2))
+    ∷ row why.Number (is_bad (box_id l))
+    ∷ row why.SameId (known ids (value_of (box_id l)))
+    ∷ row why.Label (not (label_good (get_or (rest l) 1 [])))
     ∷ []
 
 -- the rows of the line that is due, and what it says where none of them holds
@@ -119,7 +118,7 @@ rows (due.View id state) ids l = opening words.view view_limits l ++ view_more i
 
 abbrev pub says : Due → List ℕ → List ℕ → Record
 says due.Sheet ids l = sheet_says l
-says due.Box ids l = Numbers (value_of (box_id l)) 0 0 0
+says due.Box ids l = said (value_of (box_id l)) 0 0 0
 says due.Act ids l = act_says ids l
 says (due.Go states state action) ids l = go_says l
 says (due.View id state) ids l = view_says l

@@ -5,7 +5,8 @@ ghost use Rattle.text.specs.Lines.{lines, line_at, Ended};
 ghost use Rattle.sheet.specs.Numbers.{rest};
 ghost use Rattle.sheet.specs.Label.{line_start, box_start, label_place, label_found};
 
-use super::{Answer, Found, Place};
+use super::Place;
+use model::{Refusal, Refused};
 
 // Where line `index` starts, counted from 0.
 fn line_start(text: &[u8], index: usize) -> usize
@@ -13,10 +14,8 @@ fn line_start(text: &[u8], index: usize) -> usize
     ensures { result ≡ line_start index text.now }
 {
     let mut at = 0;
-    let mut k = 0;
-    while k < index {
-        at = text::find(text, at, 10) + 1;
-        k += 1;
+    for k in 0..index {
+        at = text::find(text, at, b'\n') + 1;
     }
     at
 }
@@ -27,10 +26,10 @@ fn label_place(text: &[u8], position: usize) -> Place
     ensures { result ≡ label_place text.now position }
 {
     let start = line_start(text, position + 1);
-    let end = text::find(text, start, 10);
+    let end = text::find(text, start, b'\n');
     let line = &text[start..end];
-    let word = text::find(line, 0, 9);
-    let id = text::find(line, word + 1, 9);
+    let word = text::find(line, 0, b'\t');
+    let id = text::find(line, word + 1, b'\t');
     Place {
         start: start + (id + 1),
         end,
@@ -38,22 +37,19 @@ fn label_place(text: &[u8], position: usize) -> Place
 }
 
 // The sheet is read into tables of this call's own, so that the whole of it is tested first.
-pub(crate) fn label_found(text: &[u8], position: usize) -> Found
+pub(crate) fn label_found(text: &[u8], position: usize) -> Result<Place, Refused>
     ensures { result ≡ label_found text.now position }
 {
     let mut next = [0u16; model::NEXT_ENTRIES];
     let mut outputs = [0u16; model::OUTPUT_ENTRIES];
     let mut views = [0u16; model::VIEW_ENTRIES];
-    let sheet = super::read_text(text, &mut next, &mut outputs, &mut views);
-    let answer = sheet.answer;
-    match answer {
-        Answer::Refused { number, line } => Found::Refused(number, line),
-        Answer::Model(sizes) => {
-            if position < sizes.boxes {
-                let place = label_place(text, position);
-                return Found::At(place.start, place.end);
-            }
-            Found::Refused(13, 0)
-        }
+    let model = super::read_text(text, &mut next, &mut outputs, &mut views)?;
+    if position < model.machine.sizes.boxes {
+        Ok(label_place(text, position))
+    } else {
+        Err(Refused {
+            refusal: Refusal::Range,
+            line: 0,
+        })
     }
 }

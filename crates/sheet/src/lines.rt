@@ -5,279 +5,247 @@ ghost use Rattle.text.specs.Lines.{fields_at};
 ghost use Rattle.sheet.specs.Numbers.{record_of, numbers};
 ghost use Rattle.sheet.specs.Records.{sized, position, label_good, plain, sheet_line, box_line, act_line, go_line, arrow_line, view_line, box_of, box_fields, flow_line, line_due};
 
-use super::{Due, Flow, Record};
-use text::Number;
+use super::{Arrows, Due, Numbers};
+use model::Refusal;
 
 // The numbers in the fields from `from` on: as many as there are limits, each up to its own.
-fn numbers_from(line: &[u8], from: usize, limits: &[u32]) -> Record
+fn numbers_from(line: &[u8], from: usize, limits: &[u32]) -> Result<Numbers, Refusal>
     requires { length limits.now ≤ 4 }
     ensures { result ≡ numbers limits.now (fields_at line.now from) }
 {
     let mut values = [0u32; 4];
     let mut good = true;
     let mut at = from;
-    let mut k = 0;
-    while k < limits.len() {
+    for (k, limit) in limits.iter().enumerate() {
         if line.len() < at {
-            return Record::Not(3);
+            return Err(Refusal::Fields);
         }
-        let field = text::number_from(line, at, limits[k]);
-        let number = field.number;
-        let end = field.end;
-        match number {
-            Number::Good(v) => {
+        let field = text::number_from(line, at, *limit);
+        match field.number {
+            Some(v) => {
                 values[k] = v;
             }
-            Number::Bad => {
+            None => {
                 good = false;
             }
         }
-        at = end + 1;
-        k += 1;
+        at = field.end + 1;
     }
     if at <= line.len() {
-        return Record::Not(3);
+        Err(Refusal::Fields)
+    } else if good {
+        Ok(Numbers {
+            first: values[0],
+            second: values[1],
+            third: values[2],
+            fourth: values[3],
+        })
+    } else {
+        Err(Refusal::Number)
     }
-    if good {
-        return Record::Numbers(values[0], values[1], values[2], values[3]);
+}
+
+// A record of one number.
+fn one(n: u32) -> Numbers
+    ensures { result ≡ record { first = n; second = 0; third = 0; fourth = 0 } }
+{
+    Numbers {
+        first: n,
+        second: 0,
+        third: 0,
+        fourth: 0,
     }
-    Record::Not(4)
 }
 
 // A record of the word and as many numbers as there are limits.
-fn record_of(line: &[u8], word: &[u8], limits: &[u32]) -> Record
+fn record_of(line: &[u8], word: &[u8], limits: &[u32]) -> Result<Numbers, Refusal>
     requires { length limits.now ≤ 4 }
     ensures { result ≡ record_of word.now limits.now line.now }
 {
     if text::starts(line, word) {
-        return numbers_from(line, word.len() + 1, limits);
+        numbers_from(line, word.len() + 1, limits)
+    } else {
+        Err(Refusal::Record)
     }
-    Record::Not(2)
 }
 
 // The position of an id among those given; their count where it is none of them.
 pub(crate) fn position(ids: &[u32], id: u32) -> usize
     ensures { result ≡ position ids.now id }
 {
-    let mut k = 0;
-    while k < ids.len() {
-        if ids[k] == id {
+    for (k, known) in ids.iter().enumerate() {
+        if *known == id {
             return k;
         }
-        k += 1;
     }
-    k
+    ids.len()
 }
 
 // Is a size 1 to its limit.
 fn sized(most: usize, n: u32) -> bool
     ensures { result ≡ sized most n }
 {
-    if 0 < n {
-        return n as usize <= most;
-    }
-    false
+    0 < n && n as usize <= most
 }
 
 // Is every byte 0x20 to 0x7E.
 fn plain(label: &[u8]) -> bool
     ensures { result ≡ plain label.now }
 {
-    let mut i = 0;
-    while i < label.len() {
-        if label[i] < 32 {
-            return false;
-        }
-        if 126 < label[i] {
-            return false;
-        }
-        i += 1;
-    }
-    true
+    label.iter().all(|byte| 32 <= *byte && *byte <= 126)
 }
 
 // Is a label 1 to 32 such bytes.
 fn label_good(label: &[u8]) -> bool
     ensures { result ≡ label_good label.now }
 {
-    if label.len() == 0 {
-        return false;
-    }
-    if model::LABEL_BYTES < label.len() {
-        return false;
-    }
-    plain(label)
+    0 < label.len() && label.len() <= model::LABEL_BYTES && plain(label)
 }
 
-fn sheet_line(line: &[u8]) -> Record
+fn sheet_line(line: &[u8]) -> Result<Numbers, Refusal>
     ensures { result ≡ sheet_line line.now }
 {
     let n = model::LARGEST_NUMBER;
-    match record_of(line, b"sheet", &[n, n, n, n]) {
-        Record::Not(e) => Record::Not(e),
-        Record::Numbers(states, actions, boxes, start) => {
-            if !sized(model::STATES, states) {
-                return Record::Not(5);
-            }
-            if !sized(model::ACTIONS, actions) {
-                return Record::Not(5);
-            }
-            if !sized(model::BOXES, boxes) {
-                return Record::Not(5);
-            }
-            if start < states {
-                return Record::Numbers(states, actions, boxes, start);
-            }
-            Record::Not(6)
+    let numbers = record_of(line, b"sheet", &[n, n, n, n])?;
+    if sized(model::STATES, numbers.first)
+        && sized(model::ACTIONS, numbers.second)
+        && sized(model::BOXES, numbers.third)
+    {
+        if numbers.fourth < numbers.first {
+            Ok(numbers)
+        } else {
+            Err(Refusal::Order)
         }
+    } else {
+        Err(Refusal::Size)
     }
 }
 
 // The id and the label of a box, after boxes with the ids given.
-fn box_of(number: Number, label: &[u8], ids: &[u32]) -> Record
+fn box_of(number: Option<u32>, label: &[u8], ids: &[u32]) -> Result<Numbers, Refusal>
     ensures { result ≡ box_of ids.now number label.now }
 {
-    match number {
-        Number::Bad => Record::Not(4),
-        Number::Good(id) => {
-            if position(ids, id) < ids.len() {
-                return Record::Not(7);
-            }
-            if label_good(label) {
-                return Record::Numbers(id, 0, 0, 0);
-            }
-            Record::Not(9)
-        }
+    let id = number.ok_or(Refusal::Number)?;
+    if position(ids, id) < ids.len() {
+        Err(Refusal::SameId)
+    } else if label_good(label) {
+        Ok(one(id))
+    } else {
+        Err(Refusal::Label)
     }
 }
 
 // The two fields of a box from `from` on.
-fn box_from(line: &[u8], from: usize, ids: &[u32]) -> Record
+fn box_from(line: &[u8], from: usize, ids: &[u32]) -> Result<Numbers, Refusal>
     ensures { result ≡ box_fields ids.now (fields_at line.now from) }
 {
     if line.len() < from {
-        return Record::Not(3);
+        return Err(Refusal::Fields);
     }
     let field = text::number_from(line, from, model::LARGEST_ID);
     let number = field.number;
     let end = field.end;
     if line.len() <= end {
-        return Record::Not(3);
+        return Err(Refusal::Fields);
     }
     let start = end + 1;
-    let last = text::find(line, start, 9);
+    let last = text::find(line, start, b'\t');
     if last < line.len() {
-        return Record::Not(3);
+        return Err(Refusal::Fields);
     }
     box_of(number, &line[start..], ids)
 }
 
-fn box_line(line: &[u8], ids: &[u32]) -> Record
+fn box_line(line: &[u8], ids: &[u32]) -> Result<Numbers, Refusal>
     ensures { result ≡ box_line ids.now line.now }
 {
     if text::starts(line, b"box") {
-        return box_from(line, 4, ids);
+        box_from(line, 4, ids)
+    } else {
+        Err(Refusal::Record)
     }
-    Record::Not(2)
 }
 
-fn act_line(line: &[u8], ids: &[u32]) -> Record
+fn act_line(line: &[u8], ids: &[u32]) -> Result<Numbers, Refusal>
     requires { length ids.now ≤ BOXES }
     ensures { result ≡ act_line ids.now line.now }
 {
-    match record_of(line, b"act", &[model::LARGEST_ID]) {
-        Record::Not(e) => Record::Not(e),
-        Record::Numbers(id, _, _, _) => {
-            let p = position(ids, id);
-            if p < ids.len() {
-                return Record::Numbers(p as u32, 0, 0, 0);
-            }
-            Record::Not(8)
-        }
+    let numbers = record_of(line, b"act", &[model::LARGEST_ID])?;
+    let p = position(ids, numbers.first);
+    if p < ids.len() {
+        Ok(one(p as u32))
+    } else {
+        Err(Refusal::UnknownId)
     }
 }
 
-fn go_line(line: &[u8], states: u32, state: u32, action: u32) -> Record
+fn go_line(line: &[u8], states: u32, state: u32, action: u32) -> Result<Numbers, Refusal>
     ensures { result ≡ go_line states state action line.now }
 {
     let n = model::LARGEST_NUMBER;
-    match record_of(line, b"go", &[n, n, n, n]) {
-        Record::Not(e) => Record::Not(e),
-        Record::Numbers(s, a, next, output) => {
-            if s != state {
-                return Record::Not(6);
-            }
-            if a != action {
-                return Record::Not(6);
-            }
-            if next < states {
-                return Record::Numbers(s, a, next, output);
-            }
-            Record::Not(6)
-        }
+    let numbers = record_of(line, b"go", &[n, n, n, n])?;
+    if numbers.first == state && numbers.second == action && numbers.third < states {
+        Ok(numbers)
+    } else {
+        Err(Refusal::Order)
     }
 }
 
-fn arrow_line(line: &[u8], word: &[u8], ids: &[u32]) -> Record
+fn arrow_line(line: &[u8], word: &[u8], ids: &[u32]) -> Result<Numbers, Refusal>
     requires { length ids.now ≤ BOXES }
     ensures { result ≡ arrow_line word.now ids.now line.now }
 {
-    match record_of(line, word, &[model::LARGEST_ID, model::LARGEST_ID]) {
-        Record::Not(e) => Record::Not(e),
-        Record::Numbers(from, to, _, _) => {
-            let v = position(ids, from);
-            let u = position(ids, to);
-            if ids.len() <= v {
-                return Record::Not(8);
-            }
-            if ids.len() <= u {
-                return Record::Not(8);
-            }
-            Record::Numbers(v as u32, u as u32, 0, 0)
-        }
+    let limits = [model::LARGEST_ID, model::LARGEST_ID];
+    let numbers = record_of(line, word, &limits)?;
+    let v = position(ids, numbers.first);
+    let u = position(ids, numbers.second);
+    if v < ids.len() && u < ids.len() {
+        Ok(Numbers {
+            first: v as u32,
+            second: u as u32,
+            third: 0,
+            fourth: 0,
+        })
+    } else {
+        Err(Refusal::UnknownId)
     }
 }
 
-// A `flow` or a `both` line.
-pub(crate) fn flow_line(line: &[u8], ids: &[u32]) -> Flow
+// A `flow` or a `both` line; none where it is another line.
+pub(crate) fn flow_line(line: &[u8], ids: &[u32]) -> Result<Option<Arrows>, Refusal>
     requires { length ids.now ≤ BOXES }
     ensures { result ≡ flow_line ids.now line.now }
 {
     if text::starts(line, b"flow") {
-        return match arrow_line(line, b"flow", ids) {
-            Record::Not(e) => Flow::Not(e),
-            Record::Numbers(from, to, _, _) => Flow::One(from, to),
-        };
+        let numbers = arrow_line(line, b"flow", ids)?;
+        Ok(Some(Arrows::One(numbers.first, numbers.second)))
+    } else if text::starts(line, b"both") {
+        let numbers = arrow_line(line, b"both", ids)?;
+        Ok(Some(Arrows::Two(numbers.first, numbers.second)))
+    } else {
+        Ok(None)
     }
-    if text::starts(line, b"both") {
-        return match arrow_line(line, b"both", ids) {
-            Record::Not(e) => Flow::Not(e),
-            Record::Numbers(from, to, _, _) => Flow::Two(from, to),
-        };
-    }
-    Flow::Other
 }
 
-fn view_line(line: &[u8], id: u32, state: u32) -> Record
+fn view_line(line: &[u8], id: u32, state: u32) -> Result<Numbers, Refusal>
     ensures { result ≡ view_line id state line.now }
 {
     let n = model::LARGEST_NUMBER;
-    match record_of(line, b"view", &[model::LARGEST_ID, n, n]) {
-        Record::Not(e) => Record::Not(e),
-        Record::Numbers(i, s, class, _) => {
-            if i != id {
-                return Record::Not(8);
-            }
-            if s != state {
-                return Record::Not(6);
-            }
-            Record::Numbers(i, s, class, 0)
-        }
+    let numbers = record_of(line, b"view", &[model::LARGEST_ID, n, n])?;
+    if numbers.first != id {
+        Err(Refusal::UnknownId)
+    } else if numbers.second != state {
+        Err(Refusal::Order)
+    } else {
+        Ok(Numbers {
+            fourth: 0,
+            ..numbers
+        })
     }
 }
 
 // The line, if it is the one that is due, after boxes with the ids given.
-pub(crate) fn line_due(line: &[u8], due: Due, ids: &[u32]) -> Record
+pub(crate) fn line_due(line: &[u8], due: Due, ids: &[u32]) -> Result<Numbers, Refusal>
     requires { length ids.now ≤ BOXES }
     ensures { result ≡ line_due due ids.now line.now }
 {

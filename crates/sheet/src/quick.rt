@@ -1,35 +1,40 @@
 // Lines read in one pass, where they are as they should be: no look for the line's end comes first. Any other line is left to
-// `take_due`, which alone names refusals.
+// the exact way, which alone names refusals.
 ghost use Rattle.std.specs.Prelude.{◌≡◌, ℕ, ◌<◌, ◌≤◌, length};
 ghost use Rattle.model.specs.Limits.{BOXES};
-ghost use Rattle.text.specs.Lines.{before, Ended};
+ghost use Rattle.text.specs.Lines.{Ended};
 ghost use Rattle.sheet.specs.Records.{go_line, view_line};
 ghost use Rattle.sheet.specs.Phases.{taken_by};
 ghost use Rattle.sheet.specs.OnePass.{NumberRead, MoreRead, Begins, Quickly, ArrowRead, flow_at, QuickFlow};
 
-use super::{Arrow, Digits, Due, Flow, Taken};
-use text::{Line, Number};
+use super::{Arrows, Cursor, Digits, Drawn, Due, Numbers, Taken};
+use model::Refused;
 
 // The number ends here, where `stop` stands.
-fn digits_end(text: &[u8], at: usize, stop: u8, value: u32) -> Digits
+fn digits_end(text: &[u8], at: usize, stop: u8, value: u32) -> Option<Digits>
     requires { Ended text.now × (at < length text.now) }
     ensures { (limit : ℕ) → MoreRead limit text.now stop at value result }
 {
     if text[at] == stop {
-        return Digits::Read(value, at + 1);
+        Some(Digits {
+            value,
+            next: at + 1,
+        })
+    } else {
+        None
     }
-    Digits::Other
 }
 
 // The number whose first digits made `first`, its others from `at` on, up to `stop`.
-fn digits_more(text: &[u8], at: usize, stop: u8, limit: u32, first: u32) -> Digits
+fn digits_more(text: &[u8], at: usize, stop: u8, limit: u32, first: u32) -> Option<Digits>
     requires { Ended text.now × (at < length text.now) × (0 < first) }
     ensures { MoreRead limit text.now stop at first result }
 {
     let mut value = first;
     let mut i = at;
+    // the last byte of the text, which is LF, ends this loop: a test of the index would cost each digit
     loop {
-        let Number::Good(v) = text::grown(limit, value, text[i]) else {
+        let Some(v) = text::grown(limit, value, text[i]) else {
             return digits_end(text, i, stop, value);
         };
         value = v;
@@ -38,20 +43,18 @@ fn digits_more(text: &[u8], at: usize, stop: u8, limit: u32, first: u32) -> Digi
 }
 
 // The number that stands at `at`, up to `stop`. Its first digits are written out, which spares a third of the loop's cost.
-fn digits_from(text: &[u8], at: usize, stop: u8, limit: u32) -> Digits
+fn digits_from(text: &[u8], at: usize, stop: u8, limit: u32) -> Option<Digits>
     requires { Ended text.now × (at < length text.now) }
     ensures { NumberRead limit text.now stop at result }
 {
-    let Number::Good(a) = text::grown(limit, 0, text[at]) else {
-        return Digits::Other;
-    };
-    let Number::Good(b) = text::grown(limit, a, text[at + 1]) else {
+    let a = text::grown(limit, 0, text[at])?;
+    let Some(b) = text::grown(limit, a, text[at + 1]) else {
         return digits_end(text, at + 1, stop, a);
     };
     if a == 0 {
-        return Digits::Other;
+        return None;
     }
-    let Number::Good(c) = text::grown(limit, b, text[at + 2]) else {
+    let Some(c) = text::grown(limit, b, text[at + 2]) else {
         return digits_end(text, at + 2, stop, b);
     };
     digits_more(text, at + 3, stop, limit, c)
@@ -59,181 +62,168 @@ fn digits_from(text: &[u8], at: usize, stop: u8, limit: u32) -> Digits
 
 // Do the word and a tab stand at a place.
 fn begins(text: &[u8], at: usize, word: &[u8]) -> bool
-    requires { Ended text.now × (before 10 word.now ≡ length word.now) }
     ensures { Begins text.now at word.now result }
 {
-    if text.len() <= at {
+    let Some(rest) = text.get(at..) else {
         return false;
-    }
-    let mut i = 0;
-    while i < word.len() {
-        if text[at + i] != word[i] {
-            return false;
-        }
-        i += 1;
-    }
-    text[at + i] == 9
+    };
+    rest.starts_with(word) && rest.get(word.len()).copied().unwrap_or(0) == b'\t'
 }
 
-fn quick_go(text: &[u8], at: usize, states: u32, state: u32, action: u32) -> Taken
+fn quick_go(text: &[u8], at: usize, states: u32, state: u32, action: u32) -> Option<Taken>
     requires { Ended text.now }
-    ensures { Quickly (taken_by (go_line states state action) text.now at) result }
+    ensures { Quickly (λ n. taken_by (go_line states state action) text.now at n) result }
 {
     let n = model::LARGEST_NUMBER;
     if begins(text, at, b"go") {
-        let Digits::Read(s, b) = digits_from(text, at + 3, 9, n) else {
-            return Taken::Stopped(0);
-        };
-        if s != state {
-            return Taken::Stopped(0);
+        let s = digits_from(text, at + 3, b'\t', n)?;
+        let a = digits_from(text, s.next, b'\t', n)?;
+        let next = digits_from(text, a.next, b'\t', n)?;
+        let output = digits_from(text, next.next, b'\n', n)?;
+        if s.value == state && a.value == action && next.value < states {
+            return Some(Taken {
+                numbers: Numbers {
+                    first: s.value,
+                    second: a.value,
+                    third: next.value,
+                    fourth: output.value,
+                },
+                next: output.next,
+            });
         }
-        let Digits::Read(a, c) = digits_from(text, b, 9, n) else {
-            return Taken::Stopped(0);
-        };
-        if a != action {
-            return Taken::Stopped(0);
-        }
-        let Digits::Read(next, d) = digits_from(text, c, 9, n) else {
-            return Taken::Stopped(0);
-        };
-        if states <= next {
-            return Taken::Stopped(0);
-        }
-        let Digits::Read(output, e) = digits_from(text, d, 10, n) else {
-            return Taken::Stopped(0);
-        };
-        return Taken::Took(s, a, next, output, e);
     }
-    Taken::Stopped(0)
+    None
 }
 
-fn quick_view(text: &[u8], at: usize, id: u32, state: u32) -> Taken
+fn quick_view(text: &[u8], at: usize, id: u32, state: u32) -> Option<Taken>
     requires { Ended text.now }
-    ensures { Quickly (taken_by (view_line id state) text.now at) result }
+    ensures { Quickly (λ n. taken_by (view_line id state) text.now at n) result }
 {
     let n = model::LARGEST_NUMBER;
     if begins(text, at, b"view") {
-        let Digits::Read(i, b) = digits_from(text, at + 5, 9, model::LARGEST_ID) else {
-            return Taken::Stopped(0);
-        };
-        if i != id {
-            return Taken::Stopped(0);
+        let i = digits_from(text, at + 5, b'\t', model::LARGEST_ID)?;
+        let s = digits_from(text, i.next, b'\t', n)?;
+        let class = digits_from(text, s.next, b'\n', n)?;
+        if i.value == id && s.value == state {
+            return Some(Taken {
+                numbers: Numbers {
+                    first: i.value,
+                    second: s.value,
+                    third: class.value,
+                    fourth: 0,
+                },
+                next: class.next,
+            });
         }
-        let Digits::Read(s, c) = digits_from(text, b, 9, n) else {
-            return Taken::Stopped(0);
-        };
-        if s != state {
-            return Taken::Stopped(0);
-        }
-        let Digits::Read(class, d) = digits_from(text, c, 10, n) else {
-            return Taken::Stopped(0);
-        };
-        return Taken::Took(i, s, class, 0, d);
     }
-    Taken::Stopped(0)
+    None
 }
 
 // The `go` line that is due, by the quick way or the exact one.
 pub(crate) fn take_go(
     text: &[u8],
-    at: usize,
+    cursor: Cursor,
     states: u32,
     state: u32,
     action: u32,
     ids: &[u32],
-) -> Taken
+) -> Result<Taken, Refused>
     requires { Ended text.now × (length ids.now ≤ BOXES) }
-    ensures { result ≡ taken_by (go_line states state action) text.now at }
+    ensures { result ≡ taken_by (go_line states state action) text.now cursor.at cursor.line }
 {
-    let quick = quick_go(text, at, states, state, action);
-    let Taken::Stopped(_) = quick else {
-        return quick;
-    };
+    if let Some(taken) = quick_go(text, cursor.at, states, state, action) {
+        return Ok(taken);
+    }
     let due = Due::Go {
         states,
         state,
         action,
     };
-    super::phases::take_due(text, at, due, ids)
+    super::phases::take_due(text, cursor, due, ids)
 }
 
 // The `view` line that is due, likewise.
-pub(crate) fn take_view(text: &[u8], at: usize, id: u32, state: u32, ids: &[u32]) -> Taken
+pub(crate) fn take_view(
+    text: &[u8],
+    cursor: Cursor,
+    id: u32,
+    state: u32,
+    ids: &[u32],
+) -> Result<Taken, Refused>
     requires { Ended text.now × (length ids.now ≤ BOXES) }
-    ensures { result ≡ taken_by (view_line id state) text.now at }
+    ensures { result ≡ taken_by (view_line id state) text.now cursor.at cursor.line }
 {
-    let quick = quick_view(text, at, id, state);
-    let Taken::Stopped(_) = quick else {
-        return quick;
-    };
-    super::phases::take_due(text, at, Due::View { id, state }, ids)
+    if let Some(taken) = quick_view(text, cursor.at, id, state) {
+        return Ok(taken);
+    }
+    super::phases::take_due(text, cursor, Due::View { id, state }, ids)
 }
 
 // The two ids of an arrow from `at` on, as positions.
-fn quick_arrow(text: &[u8], at: usize, ids: &[u32]) -> Taken
+fn quick_arrow(text: &[u8], at: usize, ids: &[u32]) -> Option<(u32, u32, usize)>
     requires { Ended text.now × (at < length text.now) × (length ids.now ≤ BOXES) }
     ensures { ArrowRead ids.now text.now at result }
 {
-    let Digits::Read(from, b) = digits_from(text, at, 9, model::LARGEST_ID) else {
-        return Taken::Stopped(0);
-    };
-    let Digits::Read(to, c) = digits_from(text, b, 10, model::LARGEST_ID) else {
-        return Taken::Stopped(0);
-    };
-    let v = super::lines::position(ids, from);
-    if ids.len() <= v {
-        return Taken::Stopped(0);
+    let from = digits_from(text, at, b'\t', model::LARGEST_ID)?;
+    let to = digits_from(text, from.next, b'\n', model::LARGEST_ID)?;
+    let v = super::lines::position(ids, from.value);
+    let u = super::lines::position(ids, to.value);
+    if v < ids.len() && u < ids.len() {
+        Some((v as u32, u as u32, to.next))
+    } else {
+        None
     }
-    let u = super::lines::position(ids, to);
-    if ids.len() <= u {
-        return Taken::Stopped(0);
-    }
-    Taken::Took(v as u32, u as u32, 0, 0, c)
 }
 
-fn quick_flow(text: &[u8], at: usize, ids: &[u32]) -> Arrow
+fn quick_flow(text: &[u8], at: usize, ids: &[u32]) -> Option<Drawn>
     requires { Ended text.now × (length ids.now ≤ BOXES) }
-    ensures { QuickFlow (flow_at ids.now text.now at) result }
+    ensures { QuickFlow (λ n. flow_at ids.now text.now at n) result }
 {
     if begins(text, at, b"flow") {
-        return match quick_arrow(text, at + 5, ids) {
-            Taken::Stopped(_) => Arrow::Other,
-            Taken::Took(v, u, _, _, next) => Arrow::One(v, u, next),
-        };
+        let (v, u, next) = quick_arrow(text, at + 5, ids)?;
+        Some(Drawn {
+            arrows: Arrows::One(v, u),
+            next,
+        })
+    } else if begins(text, at, b"both") {
+        let (v, u, next) = quick_arrow(text, at + 5, ids)?;
+        Some(Drawn {
+            arrows: Arrows::Two(v, u),
+            next,
+        })
+    } else {
+        None
     }
-    if begins(text, at, b"both") {
-        return match quick_arrow(text, at + 5, ids) {
-            Taken::Stopped(_) => Arrow::Other,
-            Taken::Took(v, u, _, _, next) => Arrow::Two(v, u, next),
-        };
-    }
-    Arrow::Other
 }
 
 // The same by the exact way.
-fn exact_flow(text: &[u8], at: usize, ids: &[u32]) -> Arrow
-    requires { (at < length text.now) × (length ids.now ≤ BOXES) }
-    ensures { result ≡ flow_at ids.now text.now at }
+fn exact_flow(text: &[u8], cursor: Cursor, ids: &[u32]) -> Result<Option<Drawn>, Refused>
+    requires { (cursor.at < length text.now) × (length ids.now ≤ BOXES) }
+    ensures { result ≡ flow_at ids.now text.now cursor.at cursor.line }
 {
-    let Line::At { start, end, next } = text::line_from(text, at) else {
-        return Arrow::Other;
+    let Some(line) = text::line_from(text, cursor.at) else {
+        return Ok(None);
     };
-    match super::lines::flow_line(&text[start..end], ids) {
-        Flow::Other => Arrow::Other,
-        Flow::Not(number) => Arrow::Not(number),
-        Flow::One(v, u) => Arrow::One(v, u, next),
-        Flow::Two(v, u) => Arrow::Two(v, u, next),
+    match super::lines::flow_line(&text[line.start..line.end], ids) {
+        Ok(Some(arrows)) => Ok(Some(Drawn {
+            arrows,
+            next: line.next,
+        })),
+        Ok(None) => Ok(None),
+        Err(refusal) => Err(Refused {
+            refusal,
+            line: cursor.line,
+        }),
     }
 }
 
-// A `flow` or a `both` line, by the quick way or the exact one.
-pub(crate) fn take_flow(text: &[u8], at: usize, ids: &[u32]) -> Arrow
-    requires { Ended text.now × (at < length text.now) × (length ids.now ≤ BOXES) }
-    ensures { result ≡ flow_at ids.now text.now at }
+// A `flow` or a `both` line, by the quick way or the exact one; none where it is another line.
+pub(crate) fn take_flow(text: &[u8], cursor: Cursor, ids: &[u32]) -> Result<Option<Drawn>, Refused>
+    requires { Ended text.now × (cursor.at < length text.now) × (length ids.now ≤ BOXES) }
+    ensures { result ≡ flow_at ids.now text.now cursor.at cursor.line }
 {
-    let quick = quick_flow(text, at, ids);
-    let Arrow::Other = quick else {
-        return quick;
-    };
-    exact_flow(text, at, ids)
+    if let Some(drawn) = quick_flow(text, cursor.at, ids) {
+        return Ok(Some(drawn));
+    }
+    exact_flow(text, cursor, ids)
 }

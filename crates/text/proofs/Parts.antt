@@ -1,10 +1,17 @@
 -- Laws of lines and fields, by the place where each starts. Assumes nothing.
-use Rattle.std.proofs.Common.{◌≡◌, ℕ, zero, suc, ◌+◌, ◌-◌, ◌<◌, ◌≤◌, Bool, true, false, cond, ◌&&◌, eqb, ltb, leb, List, [], ◌∷◌, length, get_or, take, drop, sym, refl, ap, ◌∙◌, suc-le-suc, zero-le, add-one, arith, length-drop, drop_of_length-le, length-take-le, get_or-drop, drop-cons, drop-drop, ltb-false, ltb-true, eq-eqb, ne_eqb, eqb-true, le-leb}
+use Rattle.std.proofs.Common.{◌≡◌, ℕ, zero, suc, ◌+◌, ◌-◌, ◌<◌, ◌≤◌, Bool, true, false, cond, ◌&&◌, eqb, ltb, leb, Option, Some, None, List, [], ◌∷◌, length, get_or, take, drop, sym, refl, ap, ◌∙◌, suc-le-suc, zero-le, add-one, arith, length-drop, drop_of_length-le, get_or-drop, drop-cons, drop-drop, ltb-false, ltb-true, eq-eqb, ne_eqb, eqb-true, le-leb}
 use native.Mathlib.Decide.{dec_lt}
+use mathlib.Core.Logic.{◌⊎◌, inl, inr}
+use denote.Ref.{Bor}
+use Rattle.std.specs.List.{position_or_len, slice_range}
+use Rattle.std.specs.Option.{MatchOption, unwrap_or}
+use Rattle.std.specs.Cmp.Lexicographic.{pointwise}
+use Rattle.std.proofs.lemmas.List.Recursion.{is_position_or_len}
+use Rattle.std.proofs.Common.{take_all}
 use lib.Dec.{leb-zero, leb-suc-suc}
 use borrow.Author.Tests.{lt-leb}
-use Rattle.text.specs.declared.Line.TheVariants.{At, End}
-use Rattle.text.specs.Lines.{line_from, before, onto, lines, fields, end_of, field_from, fields_at, same, Ended}
+use Rattle.text.specs.declared.Line.{Line}
+use Rattle.text.specs.Lines.{line_to, line_from, before, onto, lines, fields, end_of, field_from, fields_at, same, Ended}
 
 -- what stands from a place on: its first byte and the rest
 pub at : (s : List ℕ) (i : ℕ) → i < length s → drop i s ≡ get_or s i 0 ∷ drop (i + 1) s
@@ -37,6 +44,49 @@ before_hit b (x ∷ xs) (suc i) h e = go (eqb x b) (before_hit b xs i (omega ari
     go : (t : Bool) → before b xs ≤ i → cond t 0 (suc (before b xs)) ≤ suc i
     go true h = zero-le
     go false h = suc-le-suc h
+
+-- a byte is looked for from the front: where it was found, or the length where it was not
+pub first_found : (b : ℕ) (xs : List ℕ) (o : Option ℕ) → o ≡ cond (ltb (position_or_len (λ x. eqb x b) xs) (length xs)) (Some (position_or_len (λ x. eqb x b) xs)) None → unwrap_or o (length xs) ≡ before b xs
+unfolding before
+first_found b xs o h = go (ltb (position_or_len (λ x. eqb x b) xs) (length xs)) refl (before_le b xs) h
+  where
+    e : before b xs ≡ position_or_len (λ x. eqb x b) xs
+    e = is_position_or_len (before b) (λ x. eqb x b) refl (λ x xs. ap (λ (n : ℕ). cond (eqb x b) 0 n) (omega arith)) xs
+
+    go : (t : Bool) → ltb (position_or_len (λ x. eqb x b) xs) (length xs) ≡ t → before b xs ≤ length xs → o ≡ cond t (Some (position_or_len (λ x. eqb x b) xs)) None → unwrap_or o (length xs) ≡ before b xs
+    go true q k h = rw h (sym e)
+    go false q k h =
+        let z : length xs ≤ position_or_len (λ x. eqb x b) xs = ltb-false _ _ q in
+        let y : length xs ≡ before b xs = omega (arith, e) in
+        rw h y
+
+-- what is behind a place, nothing where the place is behind the end
+pub tail_is : (s : List ℕ) (i : ℕ) (o : Option (Bor (List ℕ))) (e : Bor (List ℕ)) → e.now ≡ []
+    → MatchOption o ((length s < i) ⊎ (length s < length s)) (λ x. (i ≤ length s) × (length s ≤ length s) × (x.now ≡ slice_range s i (length s)) × (length x.now + i ≡ length s))
+    → (unwrap_or o e).now ≡ drop i s
+tail_is s i (Some x) e z h = h.2 ∙ take_all (length s - i) (drop i s) (simp length-drop (omega arith))
+tail_is s i None e z h = z ∙ sym (drop_of_length-le s {i = i} (past h))
+  where
+    past : (length s < i) ⊎ (length s < length s) → length s ≤ i
+    past (inl k) = omega arith
+    past (inr k) = absurd (omega arith)
+
+pub tail_at : (s : List ℕ) (i : ℕ) (x : Bor (List ℕ)) → (i ≤ length s) × (length s ≤ length s) × (x.now ≡ slice_range s i (length s)) × (length x.now + i ≡ length s) → x.now ≡ drop i s
+tail_at s i x h = h.2 ∙ take_all (length s - i) (drop i s) (simp length-drop (omega arith))
+
+-- a byte of what is behind a place
+pub byte_is : (s : List ℕ) {r : List ℕ} (i k : ℕ) → r ≡ drop i s → k < length r → (i + k < length s) × (get_or s (i + k) 0 ≡ get_or r k 0)
+byte_is s {r} i k e h =
+    let n : length r ≡ length s - i = rw e (length-drop i s) in
+    (omega arith, sym (rw e (get_or-drop i s k 0)))
+
+-- equality of bytes as the standard library has it
+pub same_as : (a b : List ℕ) → pointwise eqb a b ≡ same a b
+unfolding same
+same_as [] [] = refl
+same_as [] (y ∷ ys) = refl
+same_as (x ∷ xs) [] = refl
+same_as (x ∷ xs) (y ∷ ys) = ap (λ t. eqb x y && t) (same_as xs ys)
 
 module _ (s : List ℕ) (b i : ℕ) where
   -- the end, by the byte at a place
@@ -96,9 +146,6 @@ fields_next l i h =
 -- the first field, which is no longer than its line
 pub first_field : (l : List ℕ) → field_from l 0 ≡ get_or (fields l) 0 []
 first_field l = sym (rw (fields_all l, fields_next l 0 (omega arith)))
-
-pub field_length : (l : List ℕ) → length (get_or (fields l) 0 []) ≤ length l
-field_length l = rw (← first_field l, length-take-le (before 9 l) l (before_le 9 l)) (before_le 9 l)
 
 pub same_is : (a b : List ℕ) → same a b ≡ true → a ≡ b
 unfolding same
@@ -161,16 +208,18 @@ pub record Found (t : List ℕ) (at start end next : ℕ) : Type 0 where
   pub end_is : end ≡ end_of 10 t at
   pub next_is : next ≡ end_of 10 t at + 1
 
-pub line_found : (t : List ℕ) (at : ℕ) {start end next : ℕ} → line_from t at ≡ At start end next → Found t at start end next
-line_found t at {start} {end} {next} h = go (ltb at (length t)) refl h
+pub line_found : (t : List ℕ) (at : ℕ) (l : Line) → line_from t at ≡ Some l → Found t at l.start l.end l.next
+line_found t at l h = go (ltb at (length t)) refl h
   where
-    go : (b : Bool) → ltb at (length t) ≡ b → cond b (At at (end_of 10 t at) (end_of 10 t at + 1)) End ≡ At start end next → Found t at start end next
-    go true q h = record { within = ltb-true _ _ q; start_is = cc; end_is = cc; next_is = cc }
+    go : (b : Bool) → ltb at (length t) ≡ b → cond b (Some (line_to at (end_of 10 t at))) None ≡ Some l → Found t at l.start l.end l.next
+    go true q h =
+        let e : line_to at (end_of 10 t at) ≡ l = cc in
+        record { within = ltb-true _ _ q; start_is = sym (ap (λ (x : Line). x.start) e); end_is = sym (ap (λ (x : Line). x.end) e); next_is = sym (ap (λ (x : Line). x.next) e) }
     go false q h = let z : ◌≡◌ {A = ℕ} 0 1 = cc in absurd (omega arith)
 
-pub line_ended : (t : List ℕ) (at : ℕ) → line_from t at ≡ End → length t ≤ at
+pub line_ended : (t : List ℕ) (at : ℕ) → line_from t at ≡ None → length t ≤ at
 line_ended t at h = go (ltb at (length t)) refl h
   where
-    go : (b : Bool) → ltb at (length t) ≡ b → cond b (At at (end_of 10 t at) (end_of 10 t at + 1)) End ≡ End → length t ≤ at
+    go : (b : Bool) → ltb at (length t) ≡ b → cond b (Some (line_to at (end_of 10 t at))) None ≡ None → length t ≤ at
     go true q h = let z : ◌≡◌ {A = ℕ} 0 1 = cc in absurd (omega arith)
     go false q h = ltb-false _ _ q

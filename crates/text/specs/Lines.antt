@@ -1,8 +1,7 @@
 -- The lines of a text and the fields of a line.
-use Rattle.std.specs.Prelude.{◌≡◌, ℕ, suc, ◌+◌, ◌-◌, Bool, true, false, cond, ◌&&◌, List, [], ◌∷◌, length, take, drop, ◌==◌, nat_le, nat_lt, slice_index_or}
+use Rattle.std.specs.Prelude.{◌≡◌, ℕ, suc, ◌+◌, ◌-◌, Bool, true, false, cond, ◌&&◌, List, [], ◌∷◌, length, take, drop, ◌==◌, nat_le, nat_lt, slice_index_or, Option, Some, None}
 use Rattle.text.specs.Number.{number, more}
 use Rattle.text.specs.declared.Line.{Line}
-use Rattle.text.specs.declared.Line.TheVariants.{At, End}
 use Rattle.text.specs.declared.Field.{Field}
 
 -- how many bytes stand before the first b, all of them where there is none
@@ -40,9 +39,13 @@ same (x ∷ xs) (y ∷ ys) = x == y && same xs ys
 abbrev pub end_of : ℕ → List ℕ → ℕ → ℕ
 end_of b s at = at + before b (drop at s)
 
+-- a line from its start to its LF, with the next one behind that
+abbrev pub line_to : ℕ → ℕ → Line
+line_to start end = record { start = start; end = end; next = end + 1 }
+
 -- the line that starts at a place of a text
-abbrev pub line_from : List ℕ → ℕ → Line
-line_from t at = cond (nat_lt at (length t)) (At at (end_of 10 t at) (end_of 10 t at + 1)) End
+abbrev pub line_from : List ℕ → ℕ → Option Line
+line_from t at = cond (nat_lt at (length t)) (Some (line_to at (end_of 10 t at))) None
 
 -- the bytes of the line that starts at a place of a text
 abbrev pub line_at : List ℕ → ℕ → List ℕ

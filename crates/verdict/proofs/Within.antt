@@ -1,4 +1,4 @@
--- What was read fits the buffer that it was read into, and a verdict the buffer that it was written to.
+-- A verdict fits the buffer that it was written to.
 -- Assumes nothing.
 use mathlib.Core.Path.{◌≡◌, sym, subst}
 use mathlib.Core.Bool.{Bool, true, false}
@@ -10,12 +10,6 @@ use lib.ListN.{length, replicate, length-append}
 use Rattle.laws.specs.Choice.{choose}
 use Rattle.model.specs.Limits.{VERDICT_BYTES}
 use Rattle.zarpalume.specs.Verdict.{Call, verdict, call, call_of}
-use Rattle.verdict.specs.declared.Input.{Input}
-use Rattle.verdict.specs.declared.Input.TheVariants.{Came}
-use Rattle.verdict.specs.Input.{Within}
-
-pub came : {r : Input} {count n : ℕ} → r ≡ Came count → Within r n → count ≤ n
-came {n = n} e w = subst (λ (r : Input). Within r n) e w
 
 abbrev Fits : Call → Type 0
 Fits c = c.count ≤ length c.bytes

@@ -10,34 +10,20 @@ use native.Mathlib.Nat.{not-suc-le-zero}
 use native.Mathlib.Decide.{ℕ_discrete}
 use native.Mathlib.Omega.{arith}
 use borrow.Author.Count.{below_more}
-use lib.ListN.{length, get_or, set, length-set, replicate, length-replicate}
+use lib.ListN.{get_or, set, length-set, replicate, length-replicate}
 use lib.Seq.{get_or-set_same, get_or-set_other}
 use borrow.Author.Tests.{eq-eqb, eqb-true}
 use Rattle.laws.proofs.Tests.{not_both, not_yes, without_none, both_true}
 use Rattle.laws.proofs.Range.{every_at, every_of}
 use Rattle.laws.proofs.Search.{first_of_empty, when_rest, when_no}
-use Rattle.model.specs.Limits.{STATES, ACTIONS, BOXES, NEXT_ENTRIES}
+use Rattle.model.specs.Limits.{ACTIONS, BOXES}
 use Rattle.model.specs.Denoted.{owner_at}
 use Rattle.model.specs.Good.{GoodMachine, GoodTable}
 use Rattle.model.specs.declared.Machine.{Machine}
 use Rattle.views.specs.Tables.{alike_in, leaks_in, moves_in, tears_in}
-use Rattle.views.specs.Guards.{KEPT, class_at, low_at, sent, Small, Low, Lows, Nexts, Idle, Keeps, Kept, Alones, alone_in, strong_in, quiet_in, Calm}
+use Rattle.views.specs.Guards.{KEPT, class_at, low_at, sent, Lows, Idle, Keeps, Kept, Alones, alone_in, strong_in, quiet_in, Calm}
 use Rattle.views.proofs.Searches.{output_at, output_from, output_of, respect_at, respect_from, step_at, step_from, step_under, step_of}
 use Rattle.views.proofs.Lows.{least_same, least_like, same_at}
-
--- ---- bounds
-pub low_small : {low : List ℕ} (u s : ℕ) {x : ℕ} → Small low → x ≡ low_at low u s → x < STATES
-low_small u s h e = let k = h.small (u * STATES + s) in omega arith
-
-pub low_upto : {states : ℕ} {low : List ℕ} {u s x : ℕ} → Low states low u → s < states → x ≡ low_at low u s → x < states
-low_upto {s = s} h l e = let k = h.upto s l in omega arith
-
-pub next_small : {states actions s a : ℕ} {next : List ℕ} → Nexts states actions next → s < states → a < actions →
-    get_or next (s * actions + a) 0 < STATES
-next_small {s = s} {a = a} n p q = let h = n.next_in s a p q in let k = n.states_most in omega arith
-
-pub lows_low : {states boxes : ℕ} {views low : List ℕ} {u : ℕ} → Lows states boxes views low → u < boxes → Low states low u
-lows_low {u = u} w l = record { upto = λ s p. (w.least u s l p).upto }
 
 -- ---- one state for each class
 pub strong_calm : (states actions : ℕ) (next low : List ℕ) (u o a : ℕ) → strong_in states actions next low u a ≡ true →
@@ -78,9 +64,6 @@ alone_calm states actions next low u o a h =
 pub alone_owner : (states actions : ℕ) (next low : List ℕ) (u o a : ℕ) → alone_in states low o ≡ true → Calm states actions next low u o a
 alone_owner states actions next low u o a h =
     record { calm = λ s t p q r k. ap (sent actions next low u a) (alone_same states low o h s t p q k) }
-
-pub nexts : {m : Machine} {next : List ℕ} → length next ≡ NEXT_ENTRIES → GoodTable m next → Nexts m.sizes.states m.sizes.actions next
-nexts e g = record { states_most = g.machine.sizes.states_most; actions_most = g.machine.sizes.actions_most; size = e; next_in = g.next_in }
 
 -- ---- no state changes
 pub idle_none : (actions : ℕ) (next : List ℕ) (a : ℕ) → Idle 0 actions next a

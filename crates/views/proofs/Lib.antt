@@ -1,5 +1,4 @@
 pub mod Flags
-pub mod Told
 pub mod Searches
 pub mod Lows
 pub mod Linked

@@ -66,11 +66,11 @@ module _ (m : Machine) (next outputs views : List ℕ) where
   unfolding first_step tears alike_too tears_in alike_in
   step_is = refl
 
-pub respect_is : (m : Model) (next outputs views : List ℕ) →
-    first_respect (machine_of m.machine next outputs) every_state (policy_of m) (view_of m.machine views)
-    ≡ first_of m.machine.sizes.boxes (respect_of m.machine.sizes.states m.machine.sizes.actions m.machine.owners m.arrows next views)
+pub respect_is : (m : Machine) (arrows next outputs views : List ℕ) →
+    first_respect (machine_of m next outputs) every_state (leads arrows) (view_of m views)
+    ≡ first_of m.sizes.boxes (respect_of m.sizes.states m.sizes.actions m.owners arrows next views)
 unfolding first_respect moves moves_in alike_in
-respect_is m next outputs views = refl
+respect_is m arrows next outputs views = refl
 
 -- next states have no say in output, and outputs have none in respect and step
 pub output_free : (m : Machine) (next outputs views : List ℕ) →
@@ -80,7 +80,7 @@ output_free m next outputs views = ap answer (output_is m [] outputs views ∙ s
 pub respect_free : (m : Model) (next outputs views : List ℕ) →
     answer (first_respect (machine_of m.machine next []) every_state (policy_of m) (view_of m.machine views))
     ≡ answer (first_respect (machine_of m.machine next outputs) every_state (policy_of m) (view_of m.machine views))
-respect_free m next outputs views = ap answer (respect_is m next [] views ∙ sym (respect_is m next outputs views))
+respect_free m next outputs views = ap answer (respect_is m.machine m.arrows next [] views ∙ sym (respect_is m.machine m.arrows next outputs views))
 
 pub step_free : (m : Machine) (next outputs views : List ℕ) →
     answer (first_step intransitive (machine_of m next []) every_state (view_of m views))

@@ -1,7 +1,7 @@
 -- What spares the judge its loops over states and pairs of states: the first alike state of each state, and what it settles.
 use Rattle.std.specs.Prelude.{◌≡◌, Bool, true, false, List, ℕ, ◌+◌, ◌*◌, ◌<◌, ◌≤◌, ◌/◌, ◌%◌, eqb, get_or, length}
 use Rattle.laws.specs.Range.{every}
-use Rattle.model.specs.Limits.{STATES, ACTIONS, BOXES, NEXT_ENTRIES}
+use Rattle.model.specs.Limits.{STATES, ACTIONS, BOXES}
 
 -- the first alike states; the slots of one box; the numbers of pairs of classes; what is noted for each box and action
 abbrev pub LOWS : ℕ
@@ -37,12 +37,9 @@ pub record Least (states : ℕ) (views : List ℕ) (u s r : ℕ) : Type 0 where
   pub like : class_at states views u r ≡ class_at states views u s
   pub none : (j : ℕ) → j < r → class_at states views u j ≡ class_at states views u s → ⊥
 
--- what an index into a table needs
+-- what stands in a table names a state of the most that there can be
 pub record Small (low : List ℕ) : Type 0 where
   pub small : (i : ℕ) → get_or low i 0 < STATES
-
-pub record Low (states : ℕ) (low : List ℕ) (u : ℕ) : Type 0 where
-  pub upto : (s : ℕ) → s < states → low_at low u s ≤ s
 
 pub record Lows (states boxes : ℕ) (views low : List ℕ) : Type 0 where
   pub small : Small low
@@ -84,13 +81,6 @@ pub record Noted (states : ℕ) (views : List ℕ) (u s : ℕ) (before after : L
   pub size : length after ≡ SLOTS
   pub here : get_or after (other_of (class_at states views u s)) 0 ≤ s
   pub lower : (i : ℕ) → get_or after i 0 ≤ get_or before i 0
-
--- what the next states keep to
-pub record Nexts (states actions : ℕ) (next : List ℕ) : Type 0 where
-  pub states_most : states ≤ STATES
-  pub actions_most : actions ≤ ACTIONS
-  pub size : length next ≡ NEXT_ENTRIES
-  pub next_in : (s a : ℕ) → s < states → a < actions → get_or next (s * actions + a) 0 < states
 
 -- the action changes no state
 pub record Idle (states actions : ℕ) (next : List ℕ) (a : ℕ) : Type 0 where

@@ -1,4 +1,4 @@
-pub mod Listed
 pub mod Judgement
+pub mod Listed
 pub mod Tables
 pub mod Guards

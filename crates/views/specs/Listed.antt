@@ -1,10 +1,11 @@
 -- What each case of the judge's answer says, in the numbers of the scope's tables.
 use Rattle.std.proofs.Math.Option.{Option, none, some}
-use Rattle.std.specs.Prelude.{ℕ}
+use Rattle.std.specs.Prelude.{ℕ, Ok, Err}
 use Rattle.model.specs.Denoted.{owner_at}
 use Rattle.model.specs.declared.Machine.{Machine}
-use Rattle.views.specs.declared.Judgement.{Judgement}
-use Rattle.views.specs.declared.Judgement.TheVariants.{Accepted, Output, Respect, Step, Refused}
+use Rattle.model.specs.Refusal.{number_of}
+use Rattle.views.specs.Judgement.{Judgement}
+use Rattle.views.specs.declared.Fault.TheVariants.{Output, Respect, Step, Refused}
 
 pub data Condition : Type 0 where
   output : Condition
@@ -29,8 +30,8 @@ refusal number line = record { refusal = number; line = line; broken = none; pos
 
 -- for output the box is the action's; respect has no t
 abbrev pub listed : Machine → Judgement → Listed
-listed m Accepted = refusal 0 0
-listed m (Output a s t) = place output (owner_at m a) a s t
-listed m (Respect u a s) = place respect u a s 0
-listed m (Step u a s t) = place step u a s t
-listed m (Refused number line) = refusal number line
+listed m (Ok _) = refusal 0 0
+listed m (Err (Output a s t)) = place output (owner_at m a) a s t
+listed m (Err (Respect u a s)) = place respect u a s 0
+listed m (Err (Step u a s t)) = place step u a s t
+listed m (Err (Refused r)) = refusal (number_of r.refusal) r.line

@@ -1,24 +1,27 @@
 // The judge: whether views meet output, respect and step, and where they first do not.
 #![tactic(auto)]
 
-ghost use Rattle.std.specs.Prelude.{◌≡◌, [], ◌+◌, ◌*◌, ◌<◌, ◌≤◌, get_or, length};
+ghost use Rattle.std.specs.Prelude.{◌≡◌, ◌≢◌, [], length, MatchResult};
 ghost use Rattle.noninterference.specs.Purge.{intransitive};
 ghost use Rattle.noninterference.specs.Judged.{first_output, first_respect, first_step};
 ghost use Rattle.model.specs.Limits.{STATES, ACTIONS, BOXES, NEXT_ENTRIES, OUTPUT_ENTRIES};
 ghost use Rattle.model.specs.Denoted.{machine_of, policy_of, view_of};
 ghost use Rattle.model.specs.Good.{GoodMachine, GoodTable};
-ghost use Rattle.views.specs.Tables.{alike_in, leaks_in, moves_in, tears_in};
-ghost use Rattle.views.specs.Guards.{Lows, Kept, Alones};
-ghost use Rattle.views.specs.Judgement.{answer, every_state, first_broken, judgement_of};
+ghost use Rattle.model.specs.declared.refusal.Refusal.TheVariants.{Length};
+ghost use Rattle.views.specs.Guards.{Kept, Alones};
+ghost use Rattle.model.specs.Refusal.{refused_as};
+ghost use Rattle.views.specs.Judgement.{answer, every_state, lengths_fit, first_broken, judgement_of};
 
 mod guards; // what spares the loops over pairs
+mod tables; // what the judge reads
 
-use model::{Machine, Model};
+use guards::{KEPT, SPOTS};
+use model::{BOXES, Model, NEXT_ENTRIES, OUTPUT_ENTRIES, Refusal, Refused, VIEW_ENTRIES};
+use tables::Tables;
 
-// Accepted; the place at which a condition is first broken; or a refusal. A position is a box's.
-#[derive(Clone, Copy)]
-pub enum Judgement {
-    Accepted,
+// Why views are not accepted: the place at which a condition is first broken, or a refusal. A position is a box's.
+#[derive(Clone, Copy, PartialEq, Eq)]
+pub enum Fault {
     Output {
         action: usize,
         s: usize,
@@ -35,276 +38,150 @@ pub enum Judgement {
         s: usize,
         t: usize,
     },
-    Refused {
-        number: usize,
-        line: usize,
-    },
+    Refused(Refused),
 }
 
-// An entry of a lent table whose rows have so many columns.
-fn entry(table: &[u16], row: usize, columns: usize, column: usize) -> usize
-    requires { (row < STATES) × (columns ≤ STATES) × (column < STATES) }
-    ensures { result ≡ get_or table.now (row * columns + column) 0 }
-{
-    model::at(table, row * columns + column)
-}
+impl From<Refusal> for Fault {
+    ghost use Rattle.views.specs.declared.Fault.TheVariants as faults;
 
-// Whether s and t look alike to box u.
-fn alike(views: &[u16], states: usize, u: usize, s: usize, t: usize) -> bool
-    requires { (states ≤ STATES) × (u < STATES) × (s < STATES) × (t < STATES) }
-    ensures { result ≡ alike_in states views.now u s t }
-{
-    entry(views, u, states, s) == entry(views, u, states, t)
-}
+    ghost from_gives = { λ refusal fault. fault ≡ faults.Refused (refused_as refusal 0) };
 
-// Whether s and t look alike to o, the action's box, and the action's outputs there differ.
-fn leaks(
-    outputs: &[u16],
-    views: &[u16],
-    states: usize,
-    actions: usize,
-    o: usize,
-    a: usize,
-    s: usize,
-    t: usize,
-) -> bool
-    requires { (states ≤ STATES) × (actions ≤ ACTIONS) × (o < BOXES) × (a < actions) × (s < states) × (t < states) }
-    ensures { result ≡ leaks_in states actions outputs.now views.now o a s t }
-{
-    if alike(views, states, o, s, t) {
-        return entry(outputs, s, actions, a) != entry(outputs, t, actions, a);
+    fn from(refusal: Refusal) -> Self {
+        Fault::Refused(refusal.into())
     }
-    false
-}
-
-// Whether the action changes u's class of s, n being the next state.
-fn moves(
-    next: &[u16],
-    views: &[u16],
-    states: usize,
-    actions: usize,
-    u: usize,
-    a: usize,
-    s: usize,
-) -> bool
-    requires states_bound { (states ≤ STATES) × (actions ≤ ACTIONS) × (u < BOXES) × (a < actions) × (s < states) }
-    requires a_bound { get_or next.now (s * actions + a) 0 < states }
-    ensures { result ≡ moves_in states actions next.now views.now u a s }
-{
-    let n = entry(next, s, actions, a);
-    if alike(views, states, u, s, n) {
-        return false;
-    }
-    true
-}
-
-// Whether s and t look alike to u and to o, the action's box, and no longer to u after the action.
-fn tears(
-    next: &[u16],
-    views: &[u16],
-    states: usize,
-    actions: usize,
-    u: usize,
-    o: usize,
-    a: usize,
-    s: usize,
-    t: usize,
-) -> bool
-    requires states_bound { (states ≤ STATES) × (actions ≤ ACTIONS) × (u < BOXES) × (o < BOXES) × (a < actions) × (s < states) × (t < states) }
-    requires a_bound { (get_or next.now (s * actions + a) 0 < states) × (get_or next.now (t * actions + a) 0 < states) }
-    ensures { result ≡ tears_in states actions next.now views.now u o a s t }
-{
-    if alike(views, states, u, s, t) {
-        if alike(views, states, o, s, t) {
-            let m = entry(next, s, actions, a);
-            let n = entry(next, t, actions, a);
-            if alike(views, states, u, m, n) {
-                return false;
-            }
-            return true;
-        }
-    }
-    false
 }
 
 // The first place that breaks output, by action, s, t.
 fn first_output(
-    machine: Machine,
-    outputs: &[u16],
-    views: &[u16],
-    low: &[u8; guards::LOWS],
-    alones: &[bool; model::BOXES],
-) -> Judgement
-    requires outputs_len { length outputs.now ≡ OUTPUT_ENTRIES }
-    requires good_machine { GoodMachine machine }
-    requires lows { Lows machine.sizes.states machine.sizes.boxes views.now low.now }
-    requires alones { Alones machine.sizes.states low.now alones.now }
-    ensures { result ≡ answer (first_output (machine_of machine [] outputs.now) every_state (view_of machine views.now)) }
+    tables: &Tables,
+    outputs: &[u16; OUTPUT_ENTRIES],
+    alones: &[bool; BOXES],
+) -> Result<(), Fault>
+    requires alones { Alones tables.now.model.now.machine.sizes.states tables.now.low.now alones.now }
+    ensures { result ≡ answer (first_output (machine_of tables.now.model.now.machine [] outputs.now) every_state (view_of tables.now.model.now.machine tables.now.views.now)) }
 {
-    let states = machine.sizes.states;
-    let actions = machine.sizes.actions;
-    let owners = machine.owners;
-    let mut found = Judgement::Accepted;
-    'actions: for a in 0..actions {
-        let o = model::owner(&owners, a);
-        if guards::silent(low, outputs, alones, states, actions, o, a) {
+    let sizes = tables.model.machine.sizes;
+    'actions: for a in 0..sizes.actions {
+        let o = tables.model.machine.owner(a);
+        if tables.silent(outputs, alones, o, a) {
             continue 'actions;
         }
-        'firsts: for s in 0..states {
-            'seconds: for t in s + 1..states {
-                if leaks(outputs, views, states, actions, o, a, s, t) {
-                    found = Judgement::Output { action: a, s, t };
-                    break 'actions;
+        'firsts: for s in 0..sizes.states {
+            'seconds: for t in s + 1..sizes.states {
+                if tables.leaks(outputs, o, a, s, t) {
+                    return Err(Fault::Output { action: a, s, t });
                 }
             }
         }
     }
-    found
+    Ok(())
 }
 
 // The first place that breaks respect, by box, action, state.
-fn first_respect(
-    model: Model,
-    next: &[u16],
-    views: &[u16],
-    low: &[u8; guards::LOWS],
-    kept: &mut [bool; guards::KEPT],
-) -> Judgement
-    requires next_len { length next.now ≡ NEXT_ENTRIES }
-    requires good_table { GoodTable model.machine next.now }
-    requires lows { Lows model.machine.sizes.states model.machine.sizes.boxes views.now low.now }
-    requires kept { Kept model.machine.sizes.states model.machine.sizes.actions next.now low.now kept.old }
-    ensures kept_2 { Kept model.machine.sizes.states model.machine.sizes.actions next.now low.now kept.new }
-    ensures value { result ≡ answer (first_respect (machine_of model.machine next.now []) every_state (policy_of model) (view_of model.machine views.now)) }
+fn first_respect(tables: &Tables, kept: &mut [bool; KEPT]) -> Result<(), Fault>
+    requires kept { Kept tables.now.model.now.machine.sizes.states tables.now.model.now.machine.sizes.actions tables.now.next.now tables.now.low.now kept.old }
+    ensures still_kept { Kept tables.now.model.now.machine.sizes.states tables.now.model.now.machine.sizes.actions tables.now.next.now tables.now.low.now kept.new }
+    ensures first { result ≡ answer (first_respect (machine_of tables.now.model.now.machine tables.now.next.now []) every_state (policy_of tables.now.model.now) (view_of tables.now.model.now.machine tables.now.views.now)) }
 {
-    let machine = model.machine;
-    let states = machine.sizes.states;
-    let actions = machine.sizes.actions;
-    let boxes = machine.sizes.boxes;
-    let owners = machine.owners;
-    let arrows = model.arrows;
-    let mut found = Judgement::Accepted;
-    'boxes: for u in 0..boxes {
-        'actions: for a in 0..actions {
-            let o = model::owner(&owners, a);
-            if model::arrow(&arrows, o, u) {
+    let sizes = tables.model.machine.sizes;
+    'boxes: for u in 0..sizes.boxes {
+        'actions: for a in 0..sizes.actions {
+            let o = tables.model.machine.owner(a);
+            if tables.model.arrow(o, u) {
                 continue 'actions;
             }
-            if guards::note_kept(low, next, kept, states, actions, u, a) {
+            if tables.note_kept(kept, u, a) {
                 continue 'actions;
             }
-            'states: for s in 0..states {
-                if moves(next, views, states, actions, u, a, s) {
-                    found = Judgement::Respect {
+            'states: for s in 0..sizes.states {
+                if tables.moves(u, a, s) {
+                    return Err(Fault::Respect {
                         position: u,
                         action: a,
                         s,
-                    };
-                    break 'boxes;
+                    });
                 }
             }
         }
     }
-    found
+    Ok(())
 }
 
 // The first place that breaks step, by box, action, s, t.
-fn first_step(
-    machine: Machine,
-    next: &[u16],
-    views: &[u16],
-    low: &[u8; guards::LOWS],
-    kept: &[bool; guards::KEPT],
-    alones: &[bool; model::BOXES],
-) -> Judgement
-    requires next_len { length next.now ≡ NEXT_ENTRIES }
-    requires good_table { GoodTable machine next.now }
-    requires lows { Lows machine.sizes.states machine.sizes.boxes views.now low.now }
-    requires kept { Kept machine.sizes.states machine.sizes.actions next.now low.now kept.now }
-    requires alones { Alones machine.sizes.states low.now alones.now }
-    ensures { result ≡ answer (first_step intransitive (machine_of machine next.now []) every_state (view_of machine views.now)) }
+fn first_step(tables: &Tables, kept: &[bool; KEPT], alones: &[bool; BOXES]) -> Result<(), Fault>
+    requires kept { Kept tables.now.model.now.machine.sizes.states tables.now.model.now.machine.sizes.actions tables.now.next.now tables.now.low.now kept.now }
+    requires alones { Alones tables.now.model.now.machine.sizes.states tables.now.low.now alones.now }
+    ensures { result ≡ answer (first_step intransitive (machine_of tables.now.model.now.machine tables.now.next.now []) every_state (view_of tables.now.model.now.machine tables.now.views.now)) }
 {
-    let states = machine.sizes.states;
-    let actions = machine.sizes.actions;
-    let boxes = machine.sizes.boxes;
-    let owners = machine.owners;
-    let mut found = Judgement::Accepted;
-    let mut table = [0u8; guards::SPOTS];
-    'boxes: for u in 0..boxes {
-        if guards::is_alone(alones, u) {
+    let sizes = tables.model.machine.sizes;
+    let mut spots = [0u8; SPOTS];
+    'boxes: for u in 0..sizes.boxes {
+        if alones[u] {
             continue 'boxes;
         }
-        'actions: for a in 0..actions {
-            let o = model::owner(&owners, a);
-            if guards::settled(
-                low, next, kept, alones, &mut table, states, actions, u, o, a,
-            ) {
+        'actions: for a in 0..sizes.actions {
+            let o = tables.model.machine.owner(a);
+            if tables.settled(kept, alones, &mut spots, u, o, a) {
                 continue 'actions;
             }
-            'firsts: for s in 0..states {
-                'seconds: for t in s + 1..states {
-                    if tears(next, views, states, actions, u, o, a, s, t) {
-                        found = Judgement::Step {
+            'firsts: for s in 0..sizes.states {
+                'seconds: for t in s + 1..sizes.states {
+                    if tables.tears(u, o, a, s, t) {
+                        return Err(Fault::Step {
                             position: u,
                             action: a,
                             s,
                             t,
-                        };
-                        break 'boxes;
+                        });
                     }
                 }
             }
         }
     }
-    found
+    Ok(())
 }
 
 // All of output before respect before step.
-fn first_broken(model: Model, next: &[u16], outputs: &[u16], views: &[u16]) -> Judgement
-    requires next_len { (length next.now ≡ NEXT_ENTRIES) × (length outputs.now ≡ OUTPUT_ENTRIES) }
-    requires good_table { GoodTable model.machine next.now }
-    ensures { result ≡ first_broken model next.now outputs.now views.now }
+fn first_broken(
+    model: &Model,
+    next: &[u16; NEXT_ENTRIES],
+    outputs: &[u16; OUTPUT_ENTRIES],
+    views: &[u16; VIEW_ENTRIES],
+) -> Result<(), Fault>
+    requires { GoodTable model.now.machine next.now }
+    ensures { result ≡ first_broken model.now next.now outputs.now views.now }
 {
-    let machine = model.machine;
-    let states = machine.sizes.states;
-    let actions = machine.sizes.actions;
-    let boxes = machine.sizes.boxes;
-    let low = guards::lows(views, states, boxes);
-    let alones = guards::alones(&low, states, boxes);
-    let output = first_output(machine, outputs, views, &low, &alones);
-    let Judgement::Accepted = output else {
-        return output;
+    let low = tables::lows(&model.machine, views);
+    let tables = Tables {
+        model,
+        next,
+        views,
+        low: &low,
     };
-    let mut kept = guards::idles(&low, next, states, actions);
-    let respect = first_respect(model, next, views, &low, &mut kept);
-    let Judgement::Accepted = respect else {
-        return respect;
-    };
-    first_step(machine, next, views, &low, &kept, &alones)
+    let alones = tables.alones();
+    first_output(&tables, outputs, &alones)?;
+    let mut kept = tables.idles();
+    first_respect(&tables, &mut kept)?;
+    first_step(&tables, &kept, &alones)
 }
 
-// A call that takes no sheet text gives line 0.
-fn refused(number: usize) -> Judgement
-    ensures { result ≡ Judgement.Refused number 0 }
+// A lent table as an array, where it has the array's length.
+fn of_length<const N: usize>(table: &[u16]) -> Result<&[u16; N], Refusal>
+    ensures { MatchResult result (λ array. (array.now ≡ table.now) × (length table.now ≡ N)) (λ refusal. (refusal ≡ Length) × (length table.now ≢ N)) }
 {
-    Judgement::Refused { number, line: 0 }
+    table.try_into().map_err(|_| Refusal::Length)
 }
 
-// Whether the views of a model are accepted. The tables are only read.
-pub fn judge(model: Model, next: &[u16], outputs: &[u16], views: &[u16]) -> Judgement
+// Whether the views of a model are accepted. The tables are only read. Refused: a table of another length, and a model or a next
+// state that breaks the rules.
+pub fn judge(model: Model, next: &[u16], outputs: &[u16], views: &[u16]) -> Result<(), Fault>
     ensures { result ≡ judgement_of model next.now outputs.now views.now }
 {
-    if next.len() != model::NEXT_ENTRIES {
-        return refused(10);
+    let next = of_length(next)?;
+    let outputs = of_length(outputs)?;
+    let views = of_length(views)?;
+    if !model::model_table_fits(model, next) {
+        return Err(Refusal::Rules.into());
     }
-    if outputs.len() != model::OUTPUT_ENTRIES {
-        return refused(10);
-    }
-    if views.len() != model::VIEW_ENTRIES {
-        return refused(10);
-    }
-    if model::model_table_fits(model, next) {
-        return first_broken(model, next, outputs, views);
-    }
-    refused(12)
+    first_broken(&model, next, outputs, views)
 }

@@ -27,12 +27,16 @@ use Rattle.model.specs.declared.Model.{Model}
 use Rattle.model.proofs.Good.{table_good, model_table_good}
 use Rattle.views.specs.Judgement as judging
 use Rattle.views.specs.Judgement.{judgement_of, answer}
-use Rattle.views.proofs.Sound.{refused_10, refused_12, accepted_or_place, first_place}
-use Rattle.needs.specs.Answered.{needed_of, list_of, lengths_fit, refused_with, found_in, depths_of}
+use Rattle.views.proofs.Sound.{refused_length, refused_rules, accepted_or_place, first_place}
+use Rattle.needs.specs.Answered.{needed_of, list_of, lengths_fit, found_in, depths_of}
 use Rattle.needs.specs.Demand.{Demand}
 use Rattle.needs.proofs.Demand.{demand_3}
 use Rattle.zarpalume.specs.Lines.{Small}
-use Rattle.zarpalume.specs.Verdict.{Few}
+use Rattle.std.specs.Prelude.{Err}
+use Rattle.model.specs.Refusal.{refused_as}
+use Rattle.model.specs.declared.refusal.Refusal.TheVariants.{Length, Rules}
+use Rattle.model.specs.declared.refusal.Refused.{Refused}
+use Rattle.zarpalume.specs.Verdict.{found, Few}
 
 -- ---- the judge's answer
 module _ (m : Model) (next outputs views : List ℕ) where
@@ -57,12 +61,12 @@ module _ (m : Model) (next outputs views : List ℕ) where
       (λ l. by_test (model_table_fits m next)
       (λ f. ⊎_elim (λ e. subst Small (sym e) tt)
       (λ q. subst Small (sym q.1) (place_small ((model_table_good m next).0 f).0 q.0 q.1)) (accepted_or_place m next outputs views l f))
-      (λ f. subst Small (sym (refused_12 m next outputs views l f)) (omega arith, omega arith)))
-      (λ l. subst Small (sym (refused_10 m next outputs views l)) (omega arith, omega arith))
+      (λ f. subst Small (sym (refused_rules m next outputs views l f)) (omega arith)))
+      (λ l. subst Small (sym (refused_length m next outputs views l)) (omega arith))
 
 -- ---- the needed-arrow call's answer
-refused_few : (number : ℕ) → Few (refused_with number)
-refused_few number = record { pairs_few = omega arith; reach_small = omega arith; depth_small = λ u. let z = zero_at BOXES u in omega arith }
+refused_few : (refused : Refused) → Few (found (Err refused))
+refused_few refused = record { pairs_few = omega arith; reach_small = omega arith; depth_small = λ u. let z = zero_at BOXES u in omega arith }
 
 module _ (m : Machine) (next outputs list : List ℕ) where
   found_few : lengths_fit next outputs list ≡ true → machine_table_fits m next ≡ true → Few (found_in (machine_of m next outputs))
@@ -82,11 +86,11 @@ module _ (m : Machine) (next outputs list : List ℕ) where
       depth d c s u (yes l) = let h = d.below_reach u l in omega arith
       depth d c s u (no l) = let h = d.beyond u (omega arith) in omega arith
 
-  pub few : Few (needed_of m next outputs list)
+  pub few : Few (found (needed_of m next outputs list))
   unfolding needed_of
   few =
       by_test (lengths_fit next outputs list)
       (λ l. by_test (machine_table_fits m next)
-      (λ f. subst Few (sym (demand_3 m next outputs list l f).0) (found_few l f))
-      (λ f. subst Few (choose_yes _ l (choose_no _ f refl)) (refused_few 12)))
-      (λ l. subst Few (choose_no _ l refl) (refused_few 10))
+      (λ f. subst (λ x. Few (found x)) (sym (demand_3 m next outputs list l f).0) (found_few l f))
+      (λ f. subst (λ x. Few (found x)) (choose_yes _ l (choose_no _ f refl)) (refused_few (refused_as Rules 0))))
+      (λ l. subst (λ x. Few (found x)) (choose_no _ l refl) (refused_few (refused_as Length 0)))

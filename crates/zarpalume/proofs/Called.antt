@@ -1,6 +1,6 @@
 -- The host call: zeros after what was written, and what the reader's answer makes of the verdict.
 -- Assumes nothing.
-use mathlib.Core.Path.{◌≡◌, refl, sym, ◌∙◌, ap, subst}
+use mathlib.Core.Path.{◌≡◌, refl, sym, ◌∙◌, ap}
 use mathlib.Core.Bool.{false}
 use mathlib.Core.List.{List, ◌++◌}
 use Prim.Native.Nat.{ℕ, ◌-◌, ◌≤◌}
@@ -10,17 +10,14 @@ use borrow.Author.Tests.{eq-eqb}
 use Rattle.laws.proofs.Tables.{drop_zeros}
 use Rattle.laws.proofs.Tests.{choose_no, choose_yes}
 use Rattle.model.specs.Limits.{NEXT_ENTRIES, OUTPUT_ENTRIES, VIEW_ENTRIES, VERDICT_BYTES, BOXES}
-use Rattle.model.specs.Made.{machine_from, model_from}
-use Rattle.model.specs.declared.Sizes.{Sizes}
-use Rattle.model.specs.declared.Machine.{Machine}
 use Rattle.model.specs.declared.Model.{Model}
 use Rattle.model.proofs.Good.{model_table_good}
 use Rattle.text.specs.Written.{Written}
 use Rattle.sheet.proofs.Fits.{read_fits}
-use Rattle.sheet.specs.declared.Answer.{Answer}
-use Rattle.sheet.specs.declared.Answer.TheVariants as answers
-use Rattle.sheet.specs.declared.Sheet.{Sheet}
-use Rattle.sheet.specs.Reading.{model_of, Parts, sheet_text, reading_of, parts_of, outcome, read}
+use Rattle.std.specs.Prelude.{Result, Ok, Err}
+use Rattle.model.specs.declared.refusal.Refused.{Refused}
+use Rattle.sheet.specs.Phases.{steps}
+use Rattle.sheet.specs.Reading.{sheet_text, reading_of, outcome, read}
 use Rattle.zarpalume.specs.Verdict.{verdict_of, refusal_of, LineSmall, said, verdict, call, call_of}
 use Rattle.zarpalume.proofs.Reading.{line_small, reading_is}
 
@@ -41,47 +38,26 @@ pub call_bad : (sheet buffer : List ℕ) → eqb (length buffer) VERDICT_BYTES �
 unfolding call_of
 call_bad sheet buffer h = choose_no _ h refl
 
--- ---- the model m that the code makes, of the machine k
-pub few_boxes : {m : Model} {k : Machine} {z : Sizes} {owners ids : List ℕ} {arrows : List ℕ} →
-    m ≡ model_from k ids arrows → k ≡ machine_from z owners → z.boxes ≤ BOXES → m.machine.sizes.boxes ≤ BOXES
-few_boxes hm hk h = subst (λ (m : Model). m.machine.sizes.boxes ≤ BOXES) (sym hm) (subst (λ (k : Machine). k.sizes.boxes ≤ BOXES) (sym hk) h)
-
-pub verdict_on : (next outputs views : List ℕ) {m : Model} {k k' : Machine} {ids v : List ℕ} {arrows : List ℕ} →
-    m ≡ model_from k ids arrows → k ≡ k' → verdict_of (model_from k' ids arrows) next outputs views ≡ v → verdict_of m next outputs views ≡ v
-verdict_on next outputs views {ids = ids} {arrows = arrows} hm hk h =
-    ap (λ m. verdict_of m next outputs views) (hm ∙ ap (λ k. model_from k ids arrows) hk) ∙ h
-
--- ---- what the reader gave: the sheet s, and the tables
-module _ (t next₀ outputs₀ views₀ : List ℕ) (s : Sheet) (next outputs views : List ℕ) (r : outcome s next outputs views ≡ read t next₀ outputs₀ views₀)
+-- ---- what the reader gave, and the tables
+module _ (t next₀ outputs₀ views₀ : List ℕ) (a : Result Model Refused) (next outputs views : List ℕ) (r : outcome a next outputs views ≡ read t next₀ outputs₀ views₀)
     (ln : length next₀ ≡ NEXT_ENTRIES) (lo : length outputs₀ ≡ OUTPUT_ENTRIES) (lv : length views₀ ≡ VIEW_ENTRIES) where
-  abbrev p : Parts
-  p = parts_of s next outputs views
+  as_read : reading_of a (steps next outputs) views ≡ sheet_text t
+  as_read = reading_is t next₀ outputs₀ views₀ a next outputs views ln lo lv r
 
-  as_read : reading_of s.answer p ≡ sheet_text t
-  as_read = reading_is t next₀ outputs₀ views₀ s next outputs views ln lo lv r
+  module _ {x : Refused} (e : a ≡ Err x) where
+    pub line_fits : LineSmall x
+    line_fits = line_small t (sym as_read ∙ ap (λ a. reading_of a (steps next outputs) views) e)
 
-  pub line_fits : LineSmall s.answer
-  line_fits = go s.answer as_read
-    where
-      go : (a : Answer) → reading_of a p ≡ sheet_text t → LineSmall a
-      go (answers.Refused number n) h = line_small t (sym h)
-      go (answers.Model z) h = tt
+    pub refused_said : refusal_of x ≡ verdict t
+    unfolding verdict
+    refused_said = ap said (sym (ap (λ a. reading_of a (steps next outputs) views) e) ∙ as_read)
 
-  -- what the call tested
-  pub refused_said : ((z : Sizes) → s.answer ≡ answers.Model z → ⊥) → refusal_of s.answer ≡ verdict t
-  unfolding verdict
-  refused_said k = go s.answer k as_read
-    where
-      go : (a : Answer) → ((z : Sizes) → a ≡ answers.Model z → ⊥) → reading_of a p ≡ sheet_text t → refusal_of a ≡ said (sheet_text t)
-      go (answers.Refused number n) k h = ap said h
-      go (answers.Model z) k h = absurd (k z refl)
+  module _ {m : Model} (e : a ≡ Ok m) where
+    pub model_said : verdict_of m next outputs views ≡ verdict t
+    unfolding verdict
+    model_said = ap said (sym (ap (λ a. reading_of a (steps next outputs) views) e) ∙ as_read)
 
-  pub model_said : {z : Sizes} → s.answer ≡ answers.Model z →
-      verdict_of (model_of z p) next outputs views ≡ verdict t
-  unfolding verdict
-  model_said e = ap said (sym (ap (λ a. reading_of a p) e) ∙ as_read)
-
-  pub boxes_most : {z : Sizes} → s.answer ≡ answers.Model z → z.boxes ≤ BOXES
-  boxes_most e =
-      let f = read_fits t (sym as_read ∙ ap (λ a. reading_of a p) e) in
-      ((model_table_good _ _).0 f.0).0.machine.sizes.boxes_most
+    pub boxes_most : m.machine.sizes.boxes ≤ BOXES
+    boxes_most =
+        let f = read_fits t (sym as_read ∙ ap (λ a. reading_of a (steps next outputs) views) e) in
+        ((model_table_good _ _).0 f.0).0.machine.sizes.boxes_most

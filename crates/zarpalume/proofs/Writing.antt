@@ -1,13 +1,12 @@
 -- Lines written into the rest of a buffer: what has room, and the fields of a line one after the other.
 -- Assumes nothing.
 use mathlib.Core.Path.{◌≡◌, refl, sym, ◌∙◌, ap}
-use mathlib.Core.List.{List, [], ◌∷◌, ◌++◌, append_assoc, append-nil}
+use mathlib.Core.List.{List, [], ◌∷◌, ◌++◌, append_assoc}
 use Prim.Native.Nat.{ℕ, suc, ◌+◌, ◌-◌, ◌*◌, ◌<◌, ◌≤◌}
 use native.Mathlib.Omega.{arith}
 use native.Mathlib.Numerals.{add-one}
-use lib.ListN.{length, get_or, take, drop, set, replicate, length-append, length-replicate, get_or-replicate}
-use lib.Seq.{drop-cons, drop-length, set_at}
-use Rattle.laws.proofs.Copied.{Copied, copied_none, copied_more, copied_length, copied_all}
+use lib.ListN.{length, get_or, take, drop, set, length-append}
+use lib.Seq.{drop-cons, set_at}
 use Rattle.text.specs.Number.{decimal}
 use Rattle.text.specs.Written.{Written, fitting}
 use Rattle.text.proofs.Digits.{digits_few}
@@ -100,23 +99,3 @@ module _ (ids depths : List ℕ) (k : ℕ) where
   depth_more s g room w l hs =
       growing_same depths_next (omega arith) (growing_more depth 28 g room w l
       (pair_line words.depth (decimal s) (decimal (get_or depths k 0)) ∙ ap (λ x. line (words.depth ∷ decimal x ∷ decimal (get_or depths k 0) ∷ [])) hs))
-
--- ---- a loop that makes every byte 0
-abbrev pub Zeroing : List ℕ → ℕ → List ℕ → Type 0
-Zeroing b i l = Copied (replicate (length b) 0) b i l
-
-pub zeroing_none : (b : List ℕ) → Zeroing b 0 b
-zeroing_none b = copied_none (replicate (length b) 0) b (rw length-replicate (omega arith))
-
-pub zeroing_more : (b : List ℕ) (i : ℕ) (l : List ℕ) → Zeroing b i l → i < length b → Zeroing b (i + 1) (set l i 0)
-zeroing_more b i l c h =
-    rw (get_or-replicate {A = ℕ} (length b) i 0 0 h) at (copied_more (replicate (length b) 0) b i l c (rw length-replicate h))
-
-pub zeroing_length : (b : List ℕ) (i : ℕ) (l : List ℕ) → Zeroing b i l → length l ≡ length b
-zeroing_length b i l c = copied_length (replicate (length b) 0) b i l c
-
-pub zeroing_all : (b : List ℕ) (i : ℕ) (l : List ℕ) → Zeroing b i l → length b ≤ i → l ≡ replicate (length b) 0
-zeroing_all b i l c h =
-    copied_all (replicate (length b) 0) b i l c (rw length-replicate h)
-    ∙ ap (λ k. replicate (length b) 0 ++ drop k b) (length-replicate (length b) 0)
-    ∙ ap (λ x. replicate (length b) 0 ++ x) (drop-length b) ∙ append-nil (replicate (length b) 0)

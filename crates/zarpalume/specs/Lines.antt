@@ -1,8 +1,9 @@
 -- The lines of a verdict. Boxes are named by their ids, never by positions.
-use Rattle.std.specs.Prelude.{ℕ, zero, suc, ◌+◌, ◌*◌, ◌<◌, List, [], ◌∷◌, ◌++◌, get_or}
+use Rattle.std.specs.Prelude.{ℕ, zero, suc, ◌+◌, ◌*◌, ◌<◌, List, [], ◌∷◌, ◌++◌, get_or, Ok, Err}
 use Rattle.text.specs.Number.{decimal}
-use Rattle.views.specs.declared.Judgement.{Judgement}
-use Rattle.views.specs.declared.Judgement.TheVariants.{Accepted, Output, Respect, Step, Refused}
+use Rattle.model.specs.Refusal.{number_of}
+use Rattle.views.specs.Judgement.{Judgement}
+use Rattle.views.specs.declared.Fault.TheVariants.{Output, Respect, Step, Refused}
 use Rattle.zarpalume.specs.Words as words
 
 -- fields parted by tabs, ended by LF
@@ -36,22 +37,22 @@ refused_line number n = line (words.refused ∷ decimal number ∷ decimal n ∷
 
 -- `views`, then `accepted`, or `broken`, condition, box id, action, s and t; for output the action's box, for respect no t
 abbrev pub views_line : List ℕ → List ℕ → Judgement → List ℕ
-views_line ids owners Accepted = line (words.views ∷ words.accepted ∷ [])
-views_line ids owners (Output a s t) =
+views_line ids owners (Ok _) = line (words.views ∷ words.accepted ∷ [])
+views_line ids owners (Err (Output a s t)) =
     line (words.views ∷ words.broken ∷ words.output ∷ id ids (get_or owners a 0) ∷ decimal a ∷ decimal s ∷ decimal t ∷ [])
-views_line ids owners (Respect u a s) =
+views_line ids owners (Err (Respect u a s)) =
     line (words.views ∷ words.broken ∷ words.respect ∷ id ids u ∷ decimal a ∷ decimal s ∷ words.dash ∷ [])
-views_line ids owners (Step u a s t) =
+views_line ids owners (Err (Step u a s t)) =
     line (words.views ∷ words.broken ∷ words.step ∷ id ids u ∷ decimal a ∷ decimal s ∷ decimal t ∷ [])
-views_line ids owners (Refused number n) = refused_line number n
+views_line ids owners (Err (Refused r)) = refused_line (number_of r.refusal) r.line
 
 -- each number fits the 32 bits that are written
 abbrev pub Small : Judgement → Type 0
-Small Accepted = Unit {0}
-Small (Output a s t) = (a < 65536) × (s < 65536) × (t < 65536)
-Small (Respect u a s) = (a < 65536) × (s < 65536)
-Small (Step u a s t) = (a < 65536) × (s < 65536) × (t < 65536)
-Small (Refused number n) = (number < 65536) × (n < 65536)
+Small (Ok _) = Unit {0}
+Small (Err (Output a s t)) = (a < 65536) × (s < 65536) × (t < 65536)
+Small (Err (Respect u a s)) = (a < 65536) × (s < 65536)
+Small (Err (Step u a s t)) = (a < 65536) × (s < 65536) × (t < 65536)
+Small (Err (Refused r)) = r.line < 65536
 
 -- `need`, source id, target id, for the first n pairs of a list
 unfoldable pub need_lines : List ℕ → List ℕ → ℕ → List ℕ

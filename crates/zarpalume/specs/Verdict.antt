@@ -1,15 +1,14 @@
 -- The verdict on a sheet, and the host call.
-use Rattle.std.specs.Prelude.{ℕ, ◌-◌, ◌<◌, ◌≤◌, List, [], ◌++◌, eqb, length, get_or, replicate}
+use Rattle.std.specs.Prelude.{ℕ, ◌-◌, ◌<◌, ◌≤◌, List, ◌++◌, eqb, length, get_or, replicate, Result}
+use Rattle.std.specs.Result.{result_unwrap_or}
 use Rattle.laws.specs.Choice.{choose}
-use Rattle.model.specs.Limits.{PAIRS, LIST_ENTRIES, VERDICT_BYTES}
+use Rattle.model.specs.Limits.{BOXES, PAIRS, LIST_ENTRIES, VERDICT_BYTES}
 use Rattle.model.specs.declared.Model.{Model}
 use Rattle.views.specs.Judgement.{judgement_of}
 use Rattle.needs.specs.Answered.{needed_of, list_of}
 use Rattle.needs.specs.declared.Needs.{Needs}
-use Rattle.needs.specs.declared.Outcome.{Outcome}
-use Rattle.needs.specs.declared.Outcome.TheVariants.{Found, Refused}
-use Rattle.sheet.specs.declared.Answer.{Answer}
-use Rattle.sheet.specs.declared.Answer.TheVariants as answers
+use Rattle.model.specs.Refusal.{number_of}
+use Rattle.model.specs.declared.refusal.Refused.{Refused}
 use Rattle.sheet.specs.Reading.{Reading, model_of, model, refusal, sheet_text}
 use Rattle.zarpalume.specs.Lines.{refused_line, views_line, need_lines, depth_lines, reach_line}
 
@@ -17,41 +16,35 @@ use Rattle.zarpalume.specs.Lines.{refused_line, views_line, need_lines, depth_li
 abbrev pub blank : List ℕ
 blank = replicate LIST_ENTRIES 0
 
-abbrev pub pairs : Outcome → ℕ
-pairs (Found count reach) = count
-pairs (Refused number line) = 0
-
-abbrev pub reached : Outcome → ℕ
-reached (Found count reach) = reach
-reached (Refused number line) = 0
+-- what was found, and nothing where the call was refused
+abbrev pub found : Result Needs Refused → Needs
+found answer = result_unwrap_or answer (record { count = 0; reach = 0; depths = replicate BOXES 0 })
 
 -- few enough pairs, and numbers that fit the 32 bits that are written
 pub record Few (n : Needs) : Type 0 where
-  pub pairs_few : pairs n.outcome ≤ PAIRS
-  pub reach_small : reached n.outcome < 65536
+  pub pairs_few : n.count ≤ PAIRS
+  pub reach_small : n.reach < 65536
   pub depth_small : (u : ℕ) → get_or n.depths u 0 < 65536
 
 -- views, needed arrows, depths and reach of a model with its tables
 unfoldable pub verdict_of : Model → List ℕ → List ℕ → List ℕ → List ℕ
 verdict_of m next outputs views =
-    let needs = needed_of m.machine next outputs blank in
+    let needs = found (needed_of m.machine next outputs blank) in
     views_line m.ids m.machine.owners (judgement_of m next outputs views)
-    ++ (need_lines m.ids (list_of m.machine next outputs blank) (pairs needs.outcome)
-    ++ (depth_lines m.ids needs.depths m.machine.sizes.boxes ++ reach_line (reached needs.outcome)))
+    ++ (need_lines m.ids (list_of m.machine next outputs blank) needs.count
+    ++ (depth_lines m.ids needs.depths m.machine.sizes.boxes ++ reach_line needs.reach))
 
--- the line of a refused answer
-abbrev pub refusal_of : Answer → List ℕ
-refusal_of (answers.Refused number line) = refused_line number line
-refusal_of (answers.Model z) = []
+-- the line of a refusal
+abbrev pub refusal_of : Refused → List ℕ
+refusal_of r = refused_line (number_of r.refusal) r.line
 
 -- its line number fits
-abbrev pub LineSmall : Answer → Type 0
-LineSmall (answers.Refused number line) = line < 65536
-LineSmall (answers.Model z) = Unit {0}
+abbrev pub LineSmall : Refused → Type 0
+LineSmall r = r.line < 65536
 
 -- one line for a refusal; else the verdict on the model
 abbrev pub said : Reading → List ℕ
-said (refusal number line) = refused_line number line
+said (refusal e line) = refused_line (number_of e) line
 said (model z p) =
     verdict_of (model_of z p) p.drawn.steps.next p.drawn.steps.outputs p.drawn.views
 

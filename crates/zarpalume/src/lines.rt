@@ -5,7 +5,8 @@ ghost use Rattle.model.specs.Limits.{BOXES, PAIRS};
 ghost use Rattle.text.specs.Written.{Written};
 ghost use Rattle.zarpalume.specs.Lines.{tabbed, ended, broken_respect, dashed, views_line, Small, need_lines, depth_lines, reach_words};
 
-use views::Judgement;
+use model::Model;
+use views::Fault;
 
 // Bytes that have room.
 fn put_words(tail: &mut [u8], words: &[u8]) -> usize
@@ -65,19 +66,14 @@ fn put_respect(tail: &mut [u8], id: u32, action: u32, s: u32) -> usize
 }
 
 // What the judge said of the views, by ids.
-pub(crate) fn put_views(
-    tail: &mut [u8],
-    ids: &[u32; model::BOXES],
-    owners: &[u8; model::ACTIONS],
-    judgement: Judgement,
-) -> usize
-    requires { Small judgement × (65 ≤ length tail.old) }
-    ensures { Written tail.old tail.new result (views_line ids.now owners.now judgement) × (result ≤ 65) }
+pub(crate) fn put_views(tail: &mut [u8], model: &Model, judged: Result<(), Fault>) -> usize
+    requires { Small judged × (65 ≤ length tail.old) }
+    ensures { Written tail.old tail.new result (views_line model.now.ids model.now.machine.owners judged) × (result ≤ 65) }
 {
-    match judgement {
-        Judgement::Accepted => put_words(tail, b"views\taccepted\n"),
-        Judgement::Output { action, s, t } => {
-            let id = model::id(ids, model::owner(owners, action));
+    match judged {
+        Ok(()) => put_words(tail, b"views\taccepted\n"),
+        Err(Fault::Output { action, s, t }) => {
+            let id = model.id(model.machine.owner(action));
             put_places(
                 tail,
                 b"views\tbroken\toutput\t",
@@ -87,18 +83,22 @@ pub(crate) fn put_views(
                 t as u32,
             )
         }
-        Judgement::Respect {
-            position,
-            action,
-            s,
-        } => { put_respect(tail, model::id(ids, position), action as u32, s as u32) }
-        Judgement::Step {
-            position,
-            action,
-            s,
-            t,
-        } => {
-            let id = model::id(ids, position);
+        Err(
+            Fault::Respect {
+                position,
+                action,
+                s,
+            },
+        ) => put_respect(tail, model.id(position), action as u32, s as u32),
+        Err(
+            Fault::Step {
+                position,
+                action,
+                s,
+                t,
+            },
+        ) => {
+            let id = model.id(position);
             put_places(
                 tail,
                 b"views\tbroken\tstep\t",
@@ -108,8 +108,9 @@ pub(crate) fn put_views(
                 t as u32,
             )
         }
-        Judgement::Refused { number, line } => {
-            put_pair(tail, b"refused\t", number as u32, line as u32)
+        Err(Fault::Refused(refused)) => {
+            let number = u32::from(refused.refusal.number());
+            put_pair(tail, b"refused\t", number, refused.line as u32)
         }
     }
 }
@@ -117,17 +118,17 @@ pub(crate) fn put_views(
 // A line for each of the first `count` pairs of the list.
 pub(crate) fn put_needs(
     tail: &mut [u8],
-    ids: &[u32; model::BOXES],
+    model: &Model,
     list: &[u16; model::LIST_ENTRIES],
     count: usize,
 ) -> usize
     requires { (count ≤ PAIRS) × (27 * PAIRS ≤ length tail.old) }
-    ensures { Written tail.old tail.new result (need_lines ids.now list.now count) × (result ≤ 27 * PAIRS) }
+    ensures { Written tail.old tail.new result (need_lines model.now.ids list.now count) × (result ≤ 27 * PAIRS) }
 {
     let mut at = 0;
     'pairs: for k in 0..count {
-        let source = model::id(ids, model::at(list, 2 * k));
-        let target = model::id(ids, model::at(list, 2 * k + 1));
+        let source = model.id(model::at(list, 2 * k));
+        let target = model.id(model::at(list, 2 * k + 1));
         at += put_pair(&mut tail[at..], b"need\t", source, target);
     }
     at
@@ -136,17 +137,17 @@ pub(crate) fn put_needs(
 // A line for each of the first `boxes` boxes.
 pub(crate) fn put_depths(
     tail: &mut [u8],
-    ids: &[u32; model::BOXES],
+    model: &Model,
     depths: &[usize; model::BOXES],
     boxes: usize,
 ) -> usize
     requires boxes_bound { (boxes ≤ BOXES) × (28 * BOXES ≤ length tail.old) }
     requires by_index { (u : ℕ) → get_or depths.now u 0 < 65536 }
-    ensures { Written tail.old tail.new result (depth_lines ids.now depths.now boxes) × (result ≤ 28 * BOXES) }
+    ensures { Written tail.old tail.new result (depth_lines model.now.ids depths.now boxes) × (result ≤ 28 * BOXES) }
 {
     let mut at = 0;
     'boxes: for u in 0..boxes {
-        let id = model::id(ids, u);
+        let id = model.id(u);
         let depth = depths[u] as u32;
         at += put_pair(&mut tail[at..], b"depth\t", id, depth);
     }

@@ -3,8 +3,9 @@
 
 ghost use Rattle.std.specs.Prelude.{◌≡◌};
 ghost use Rattle.edits.specs.History.{past};
-ghost use Rattle.edits.specs.Plan.{Add, Delete, Draw, Erase};
-ghost use Rattle.edits.specs.Edited.{Make, Undo, Drop, outcome, edited};
+ghost use Rattle.edits.specs.Edited.{outcome, edited};
+ghost use Rattle.edits.specs.declared.Change.TheVariants.{Add, Delete, Draw, Erase};
+ghost use Rattle.edits.specs.declared.Request.TheVariants.{Make, Undo, Drop};
 ghost use Rattle.zarpalume.specs.Verdict.{call, call_of};
 
 use edits::BoxRecord;

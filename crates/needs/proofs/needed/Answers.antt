@@ -1,85 +1,103 @@
 -- `needs::needed` meets its contract.
--- Assumes nothing.
-use mathlib.Core.Path.{sym, ◌∙◌}
+use Rattle.std.proofs.Common.{rules, ◌≡◌, refl, sym, ◌∙◌, ap, length, false, true}
+use Rattle.std.specs.Prelude.{eqb, Err}
+use Rattle.model.specs.Limits.{NEXT_ENTRIES, OUTPUT_ENTRIES, LIST_ENTRIES}
+use Rattle.model.specs.Refusal.{refused_as}
+use Rattle.model.specs.declared.refusal.Refusal.TheVariants.{Length}
+use Rattle.needs.proofs.Answering.{lengths_outputs, lengths_list, lengths_next, lengths_all, needed_lengths, list_lengths}
+use Rattle.std.specs.Prelude.{Ok, replicate}
+use Rattle.model.specs.declared.refusal.Refusal.TheVariants.{Rules}
 use Rattle.model.proofs.Good.{table_good}
-use Rattle.reach.proofs.Told.{found_fits, refused_breaks}
-use Rattle.needs.proofs.Answering.{lengths_outputs, lengths_list, lengths_next, lengths_all, cleared, known_of, needed_lengths, list_lengths, needed_rules, list_rules, needed_found, list_found}
+use borrow.Author.Tests.{eqb-true}
+use Rattle.reach.specs.Answered.{answer_of}
+use Rattle.reach.proofs.Told.{found_says, refused_breaks}
+use Rattle.needs.proofs.Answering.{needed_rules, list_rules, needed_found, list_found, known_of}
 use Rattle.needs.proofs.needed.Goals as goal
 
-pub refused-requires : goal.refused-requires
-refused-requires c = tt
+pub returns-in_err-unless-clause-value : goal.returns-in_err-unless-clause-value
+returns-in_err-unless-clause-value c =
+    let e : eqb (length c.args.outputs.now) OUTPUT_ENTRIES ≡ false = search rules in
+    let r : c.from_residual.result ≡ Err (refused_as Length 0) = search rules in
+    r ∙ sym (needed_lengths _ _ _ _ (lengths_outputs _ _ _ e))
 
-pub returns-then-outputs-ne-OUTPUT_ENTRIES : goal.returns-then-outputs-ne-OUTPUT_ENTRIES
-returns-then-outputs-ne-OUTPUT_ENTRIES c =
-    let g = c.args in
-    let next = g.next.now in
-    let outputs = g.outputs.now in
-    let list = g.list.now in
-    let e = lengths_outputs next outputs list c.if-outputs-ne-OUTPUT_ENTRIES.true in
-    record { value = needed_lengths _ next outputs list _ e c.refused.ensures; list_after = list_lengths _ next outputs list e }
+pub returns-in_err-unless-clause-list_after : goal.returns-in_err-unless-clause-list_after
+returns-in_err-unless-clause-list_after c =
+    let e : eqb (length c.args.outputs.now) OUTPUT_ENTRIES ≡ false = search rules in
+    sym (list_lengths _ _ _ _ (lengths_outputs _ _ _ e))
 
-pub refused-requires-then-list-ne-LIST_ENTRIES : goal.refused-requires-then-list-ne-LIST_ENTRIES
-refused-requires-then-list-ne-LIST_ENTRIES c = tt
+pub returns-in_err-unless-2-clause-value : goal.returns-in_err-unless-2-clause-value
+returns-in_err-unless-2-clause-value c =
+    let e : eqb (length c.args.list.now) LIST_ENTRIES ≡ false = search rules in
+    let r : c.from_residual-in_err-unless-2.result ≡ Err (refused_as Length 0) = search rules in
+    r ∙ sym (needed_lengths _ _ _ _ (lengths_list _ _ _ e))
 
-pub returns-then-list-ne-LIST_ENTRIES : goal.returns-then-list-ne-LIST_ENTRIES
-returns-then-list-ne-LIST_ENTRIES c =
-    let g = c.args in
-    let next = g.next.now in
-    let outputs = g.outputs.now in
-    let list = g.list.now in
-    let e = lengths_list next outputs list c.if-list-ne-LIST_ENTRIES.true in
-    record { value = needed_lengths _ next outputs list _ e c.refused-then-list-ne-LIST_ENTRIES.ensures; list_after = list_lengths _ next outputs list e }
+pub returns-in_err-unless-2-clause-list_after : goal.returns-in_err-unless-2-clause-list_after
+returns-in_err-unless-2-clause-list_after c =
+    let e : eqb (length c.args.list.now) LIST_ENTRIES ≡ false = search rules in
+    sym (list_lengths _ _ _ _ (lengths_list _ _ _ e))
 
-pub refused-requires-then-next-ne-NEXT_ENTRIES : goal.refused-requires-then-next-ne-NEXT_ENTRIES
-refused-requires-then-next-ne-NEXT_ENTRIES c = tt
+pub returns-in_err-unless-3-clause-value : goal.returns-in_err-unless-3-clause-value
+returns-in_err-unless-3-clause-value c =
+    let e : eqb (length c.args.next.now) NEXT_ENTRIES ≡ false = search rules in
+    let r : c.from_residual-in_err-unless-3.result ≡ Err (refused_as Length 0) = search rules in
+    r ∙ sym (needed_lengths _ _ _ _ (lengths_next _ _ _ e))
 
-pub returns-then-next-ne-NEXT_ENTRIES : goal.returns-then-next-ne-NEXT_ENTRIES
-returns-then-next-ne-NEXT_ENTRIES c =
-    let g = c.args in
-    let next = g.next.now in
-    let outputs = g.outputs.now in
-    let list = g.list.now in
-    let e = lengths_next next outputs list c.if-next-ne-NEXT_ENTRIES.true in
-    record { value = needed_lengths _ next outputs list _ e c.refused-then-next-ne-NEXT_ENTRIES.ensures; list_after = list_lengths _ next outputs list e }
+pub returns-in_err-unless-3-clause-list_after : goal.returns-in_err-unless-3-clause-list_after
+returns-in_err-unless-3-clause-list_after c =
+    let e : eqb (length c.args.next.now) NEXT_ENTRIES ≡ false = search rules in
+    sym (list_lengths _ _ _ _ (lengths_next _ _ _ e))
 
-pub clear-requires : goal.clear-requires
-clear-requires c = tt
+pub returns-in_err-reached-clause-value : goal.returns-in_err-reached-clause-value
+returns-in_err-reached-clause-value c =
+    let a : eqb (length c.args.outputs.now) OUTPUT_ENTRIES ≡ true = search rules in
+    let b : eqb (length c.args.list.now) LIST_ENTRIES ≡ true = search rules in
+    let d : eqb (length c.args.next.now) NEXT_ENTRIES ≡ true = search rules in
+    let e = lengths_all c.args.next.now c.args.outputs.now c.args.list.now a b d in
+    let o : answer_of c.args.machine c.args.next.now ≡ Err c.in_err-reached.field-0.0 = search rules in
+    let f = refused_breaks c.args.machine c.args.next.now _ (eqb-true _ _ d) o in
+    let r : c.from_residual-in_err-reached.result ≡ Err c.in_err-reached.field-0.0 = search rules in
+    r ∙ ap Err f.1 ∙ sym (needed_rules _ _ _ _ e f.0)
 
-pub reached-answer-requires : goal.reached-answer-requires
-reached-answer-requires c = tt
+pub returns-in_err-reached-clause-list_after : goal.returns-in_err-reached-clause-list_after
+returns-in_err-reached-clause-list_after c =
+    let a : eqb (length c.args.outputs.now) OUTPUT_ENTRIES ≡ true = search rules in
+    let b : eqb (length c.args.list.now) LIST_ENTRIES ≡ true = search rules in
+    let d : eqb (length c.args.next.now) NEXT_ENTRIES ≡ true = search rules in
+    let e = lengths_all c.args.next.now c.args.outputs.now c.args.list.now a b d in
+    let o : answer_of c.args.machine c.args.next.now ≡ Err c.in_err-reached.field-0.0 = search rules in
+    let f = refused_breaks c.args.machine c.args.next.now _ (eqb-true _ _ d) o in
+    let z : c.fill.new.self ≡ replicate LIST_ENTRIES 0 = search rules in
+    z ∙ sym (list_rules _ _ _ _ e f.0)
 
-pub refused-requires-in_default : goal.refused-requires-in_default
-refused-requires-in_default c = tt
+pub invariant_of-tables : goal.invariant_of-tables
+invariant_of-tables c =
+    let a : length c.args.outputs.now ≡ OUTPUT_ENTRIES = search rules in
+    let o : answer_of c.args.machine c.args.next.now ≡ Ok c.in_ok-reached.reached = search rules in
+    let s = found_says c.args.machine c.args.next.now _ o in
+    record { fitting = record { good = (table_good _ _).0 s.fits; next_long = s.long; outputs_long = a } }
 
-pub returns-in_default : goal.returns-in_default
-returns-in_default c =
-    let g = c.args in
-    let next = g.next.now in
-    let outputs = g.outputs.now in
-    let list = g.list.now in
-    let b = c.if-list-ne-LIST_ENTRIES.false in
-    let d = c.if-next-ne-NEXT_ENTRIES.false in
-    let e = lengths_all next outputs list c.if-outputs-ne-OUTPUT_ENTRIES.false b d in
-    let o = c.reached-answer.ensures.outcome_value in
-    let f = refused_breaks g.machine next d (λ z. c.in_default.not-Found (o ∙ z)) in
-    record { value = needed_rules _ next outputs list _ e f c.refused-in_default.ensures; list_after = list_rules _ next outputs list _ e f (cleared list c.clear.ensures b) }
+pub found-requires-clause-known : goal.found-requires-clause-known
+found-requires-clause-known c =
+    let o : answer_of c.args.machine c.args.next.now ≡ Ok c.in_ok-reached.reached = search rules in
+    let s = found_says c.args.machine c.args.next.now _ o in
+    known_of c.args.machine c.args.next.now c.args.outputs.now _ s.long s.fits s.flags
 
-pub found-requires : goal.found-requires
-found-requires c =
-    let g = c.args in
-    let a = c.if-outputs-ne-OUTPUT_ENTRIES.false in
-    let b = c.if-list-ne-LIST_ENTRIES.false in
-    let d = c.if-next-ne-NEXT_ENTRIES.false in
-    let f = found_fits g.machine g.next.now d (sym c.reached-answer.ensures.outcome_value ∙ c.in-Found.is) in
-    record { fitting = record { good = (table_good g.machine g.next.now).0 f; next_long = d; outputs_long = a }; known = known_of g.machine g.next.now g.outputs.now _ d f c.reached-answer.ensures.set_value; list_value = cleared g.list.now c.clear.ensures b }
+pub returns-clause-value : goal.returns-clause-value
+returns-clause-value c =
+    let a : eqb (length c.args.outputs.now) OUTPUT_ENTRIES ≡ true = search rules in
+    let b : eqb (length c.args.list.now) LIST_ENTRIES ≡ true = search rules in
+    let d : eqb (length c.args.next.now) NEXT_ENTRIES ≡ true = search rules in
+    let e = lengths_all c.args.next.now c.args.outputs.now c.args.list.now a b d in
+    let o : answer_of c.args.machine c.args.next.now ≡ Ok c.in_ok-reached.reached = search rules in
+    let s = found_says c.args.machine c.args.next.now _ o in
+    ap Ok c.found.ensures.value ∙ sym (needed_found _ _ _ _ e s.fits)
 
-pub returns : goal.returns
-returns c =
-    let g = c.args in
-    let next = g.next.now in
-    let outputs = g.outputs.now in
-    let list = g.list.now in
-    let d = c.if-next-ne-NEXT_ENTRIES.false in
-    let e = lengths_all next outputs list c.if-outputs-ne-OUTPUT_ENTRIES.false c.if-list-ne-LIST_ENTRIES.false d in
-    let f = found_fits g.machine next d (sym c.reached-answer.ensures.outcome_value ∙ c.in-Found.is) in
-    record { value = needed_found g.machine next outputs list _ e f c.found.ensures.value; list_after = list_found g.machine next outputs list _ e f c.found.ensures.list_after }
+pub returns-clause-list_after : goal.returns-clause-list_after
+returns-clause-list_after c =
+    let a : eqb (length c.args.outputs.now) OUTPUT_ENTRIES ≡ true = search rules in
+    let b : eqb (length c.args.list.now) LIST_ENTRIES ≡ true = search rules in
+    let d : eqb (length c.args.next.now) NEXT_ENTRIES ≡ true = search rules in
+    let e = lengths_all c.args.next.now c.args.outputs.now c.args.list.now a b d in
+    let o : answer_of c.args.machine c.args.next.now ≡ Ok c.in_ok-reached.reached = search rules in
+    let s = found_says c.args.machine c.args.next.now _ o in
+    c.found.ensures.list_after ∙ sym (list_found _ _ _ _ e s.fits)

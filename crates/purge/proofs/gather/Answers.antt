@@ -34,4 +34,4 @@ pub shape_of-kept : goal.shape_of-kept
 shape_of-kept c = gathered_length _ _ _ _ c.actions.invariant
 
 pub returns : goal.returns
-returns c = let p = gathered_end _ _ _ _ c.actions.invariant (search rules) in record { r_value = p.0; kept_after = p.1 }
+returns c = let p = gathered_end _ _ _ _ c.actions.invariant (search rules) in record { count = p.0; gathered = p.1 }

@@ -7,5 +7,5 @@ interferers-target-requires c = box_small _ _ _ c.requires.askable
 
 pub returns : goal.returns
 returns c =
-    kept_written _ _ _ _ _ c.requires.askable c.interferers-target.ensures _ _ c.added-into.ensures c.mark.ensures.kept_after
-    c.gather.ensures.r_value c.gather.ensures.kept_after
+    kept_written _ _ _ _ _ c.requires.askable c.interferers-target.ensures _ _ c.added-into.ensures c.mark.ensures
+    c.gather.ensures.count c.gather.ensures.gathered

@@ -1,28 +1,15 @@
 -- `purge::names_actions` meets its contract. Assumes nothing.
-use Rattle.laws.proofs.Loops.{each}
+use mathlib.Core.Path.{◌∙◌}
+use lib.Dec.{ltb}
+use Rattle.std.proofs.Common.{rules, tests}
+use Rattle.std.proofs.lemmas.Iterator.{YieldsList-from_slice}
+use Rattle.std.proofs.lemmas.Iterator.Search.{all_from_yields_List}
 use Rattle.purge.specs.Purged.{names_actions}
+use Rattle.purge.proofs.Answers.{each_passes}
 use Rattle.purge.proofs.names_actions.Goals as goal
-
-pub run-init : goal.run-init
-unfolding names_actions
-run-init c = search each
-
-pub returns-then-actions-wide : goal.returns-then-actions-wide
-unfolding names_actions
-returns-then-actions-wide c = search each
-
-pub overflow_step-i : goal.overflow_step-i
-unfolding names_actions
-overflow_step-i c = search each
-
-pub run-smaller : goal.run-smaller
-unfolding names_actions
-run-smaller c = search each
-
-pub run-preserved : goal.run-preserved
-unfolding names_actions
-run-preserved c = search each
 
 pub returns : goal.returns
 unfolding names_actions
-returns c = search each
+returns c =
+    all_from_yields_List (λ x. ltb x c.args.actions) _ _ _ c.all.ensures.ran (YieldsList-from_slice c.args.run.now cc) (λ x b q k. search (rules, tests))
+    ∙ each_passes (λ x. ltb x c.args.actions) c.args.run.now

@@ -1,32 +1,35 @@
 -- `purge::purged` meets its contract. Assumes nothing.
-use borrow.Author.Rules.{rules}
-use Rattle.purge.specs.Purged.{purged_of, asked}
-use Rattle.purge.proofs.Answers.{answers, askable}
+use mathlib.Core.Path.{sym, ◌∙◌}
+use borrow.Author.Tests.{eq-eqb, ne_eqb}
+use Rattle.laws.specs.Choice.{choose}
+use Rattle.purge.specs.Purged.{purged_of}
+use Rattle.purge.proofs.Answers.{askable}
 use Rattle.purge.proofs.purged.Goals as goal
 
 pub returns-then-kept-run : goal.returns-then-kept-run
-unfolding purged_of asked
-returns-then-kept-run c = search answers depth 9
+unfolding purged_of choose
+returns-then-kept-run c = rw (c.into.ensures, ne_eqb _ _ c.if-kept-run.true)
 
-pub returns-then-boxes-position : goal.returns-then-boxes-position
-unfolding purged_of asked
-returns-then-boxes-position c = search answers depth 9
+pub returns-then-not-model_fits : goal.returns-then-not-model_fits
+unfolding purged_of choose
+returns-then-not-model_fits c =
+    rw (c.into-then-not-model_fits.ensures, eq-eqb _ _ c.if-kept-run.false, sym c.model_fits.ensures ∙ c.if-not-model_fits.true)
 
-pub returns-then-run-gt-RUN_ACTIONS : goal.returns-then-run-gt-RUN_ACTIONS
-unfolding purged_of asked
-returns-then-run-gt-RUN_ACTIONS c = search answers depth 9
+pub returns-then-not-asked : goal.returns-then-not-asked
+unfolding purged_of choose
+returns-then-not-asked c =
+    rw (
+      c.into-then-not-asked.ensures,
+      eq-eqb _ _ c.if-kept-run.false,
+      sym c.model_fits.ensures ∙ c.if-not-model_fits.false,
+      sym c.asked.ensures ∙ c.if-not-asked.true,
+    )
 
-pub keep-requires : goal.keep-requires
-keep-requires c = record { askable = search askable; kept_len = search rules }
-
-pub returns-then-names_actions : goal.returns-then-names_actions
-unfolding purged_of asked
-returns-then-names_actions c = search answers depth 9
-
-pub returns-then-model_fits : goal.returns-then-model_fits
-unfolding purged_of asked
-returns-then-model_fits c = search answers depth 9
+pub keep-requires-clause-askable : goal.keep-requires-clause-askable
+keep-requires-clause-askable c = askable _ _ _ (sym c.model_fits.ensures ∙ c.if-not-model_fits.false) (sym c.asked.ensures ∙ c.if-not-asked.false)
 
 pub returns : goal.returns
-unfolding purged_of asked
-returns c = search answers depth 9
+unfolding purged_of choose
+returns c =
+    rw (eq-eqb _ _ c.if-kept-run.false, sym c.model_fits.ensures ∙ c.if-not-model_fits.false, sym c.asked.ensures ∙ c.if-not-asked.false)
+    c.keep.ensures

@@ -4,4 +4,4 @@ use Rattle.register.proofs.outputs.Goals as goal
 
 pub returns : goal.returns
 unfolding by_state column
-returns c = c.lay.ensures
+returns c = c.padded.ensures

@@ -4,4 +4,4 @@ use Rattle.register.proofs.views.Goals as goal
 
 pub returns : goal.returns
 unfolding by_box
-returns c = c.lay.ensures
+returns c = c.padded.ensures

@@ -11,7 +11,7 @@ pub returns-in_default : goal.returns-in_default
 returns-in_default c = rw c.find.ensures (number_bad _ _ _ (omega arith) (sym c.grown.ensures ∙ c.in_default.is))
 
 pub returns-then-zero : goal.returns-then-zero
-returns-then-zero c = c.zero_from.ensures ∙ zero_any _ _ _ ∙ ap (more_from _ _ _) (sym c.if-zero.true) ∙ number_good _ _ _ (omega arith) _ (sym c.grown.ensures ∙ c.in-Good.is)
+returns-then-zero c = c.zero_from.ensures ∙ zero_any _ _ _ ∙ ap (more_from _ _ _) (sym c.if-zero.true) ∙ number_good _ _ _ (omega arith) _ (sym c.grown.ensures ∙ c.in-Some.is)
 
-pub returns : goal.returns
-returns c = c.more_from.ensures ∙ number_good _ _ _ (omega arith) _ (sym c.grown.ensures ∙ c.in-Good.is)
+pub returns-else-zero : goal.returns-else-zero
+returns-else-zero c = c.more_from.ensures ∙ number_good _ _ _ (omega arith) _ (sym c.grown.ensures ∙ c.in-Some.is)

@@ -1,6 +1,5 @@
--- `verdict::read_input` meets its contract: what came is within the buffer, and each turn leaves less of it to fill.
--- Assumes nothing.
-use Rattle.std.proofs.Common.{length, ◌-◌, ◌≡◌, ◌≤◌}
+-- `verdict::read_input` meets its contract: each turn leaves less of the buffer to fill.
+use Rattle.std.specs.Prelude.{length, ◌-◌, ◌≡◌, ◌≤◌}
 use Rattle.verdict.proofs.read_input.Given as goal
 
 abbrev pub invariant-pieces : goal.invariant-pieces

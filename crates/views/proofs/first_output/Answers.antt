@@ -1,102 +1,46 @@
--- `views::first_output` meets its contract. Each loop's invariant: its number is at most the range's end, nothing is found yet, and the search that the loop makes gives nothing below its number.
--- Assumes nothing.
+-- `views::first_output` meets its contract. Assumes nothing.
 use mathlib.Core.Path.{refl}
 use mathlib.Core.List.{[]}
 use native.Mathlib.Omega.{arith}
+use Rattle.noninterference.specs.Place.{output}
 use Rattle.laws.proofs.Tests.{told}
 use Rattle.laws.proofs.Search.{sweep, passed_more, first_of_none, first_of_hit, when_rest, when_no, when_hit, pair_hit, pairs_passed}
-use Rattle.views.proofs.Flags.{owner_in, owner_small, answer_none, answer_output}
-use Rattle.views.proofs.Calm.{lows_low, quiet_none}
+use Rattle.views.specs.Judgement.{answer}
+use Rattle.views.proofs.Flags.{answer_none, answer_place}
+use Rattle.views.proofs.Calm.{quiet_none}
 use Rattle.views.proofs.Searches.{output_is}
 use Rattle.views.proofs.first_output.Goals as goal
 
-pub actions-init : goal.actions-init
-actions-init c = search sweep
-
-pub silent-requires : goal.silent-requires
-silent-requires c =
-    let g = c.requires.good_machine in
-    let l = c.actions-test.true in
-    record { outputs_len = c.requires.outputs_len; low = lows_low c.requires.lows (owner_in g l c.owner-o.ensures); alones = c.requires.alones; states_bound = (g.sizes.states_most, g.sizes.actions_most, owner_small g l c.owner-o.ensures, l) }
-
-pub overflow_step-a : goal.overflow_step-a
-overflow_step-a c = omega arith
-
-pub actions-smaller-then-silent : goal.actions-smaller-then-silent
-actions-smaller-then-silent c = omega arith
-
 pub actions-preserved-then-silent : goal.actions-preserved-then-silent
-actions-preserved-then-silent c = (
-  omega arith,
-  c.actions.invariant.1,
-  passed_more _ _ c.actions.invariant.2 (quiet_none _ c.requires.good_machine c.requires.lows c.actions-test.true
-      c.owner-o.ensures (told _ _ c.silent.ensures c.if-silent.true)),
-)
-
-pub firsts-init : goal.firsts-init
-firsts-init c = search sweep
-
-pub overflow_step-t : goal.overflow_step-t
-overflow_step-t c = omega arith
+actions-preserved-then-silent c =
+    let k = c.args.tables.now in
+    passed_more _ _ c.actions.invariant (quiet_none _ k.good.machine k.lows c.actions-test.true
+    c.owner-o.ensures (told _ _ c.silent.ensures c.if-silent.true))
 
 pub seconds-init : goal.seconds-init
 seconds-init c = search (sweep, pairs_passed)
 
-pub leaks-requires : goal.leaks-requires
-leaks-requires c =
-    let g = c.requires.good_machine in (
-      g.sizes.states_most,
-      g.sizes.actions_most,
-      owner_small g c.actions-test.true
-          c.owner-o.ensures,
-      c.actions-test.true,
-      c.firsts-test.true,
-      c.seconds-test.true,
-    )
-
-pub overflow_step-t-in-seconds : goal.overflow_step-t-in-seconds
-overflow_step-t-in-seconds c = omega arith
-
-pub seconds-smaller : goal.seconds-smaller
-seconds-smaller c = omega arith
-
 pub seconds-preserved : goal.seconds-preserved
-seconds-preserved c = (
-  omega arith,
-  omega arith,
-  c.seconds.invariant.2,
-  passed_more _ _ c.seconds.invariant.3 (when_rest _ (when_rest _ (when_no _ (told _ _ (rw
-      c.owner-o.ensures at c.leaks.ensures) c.if-leaks.false)))),
-)
-
-pub overflow_step-s : goal.overflow_step-s
-overflow_step-s c = omega arith
-
-pub firsts-smaller : goal.firsts-smaller
-firsts-smaller c = omega arith
+seconds-preserved c =
+    passed_more _ _ c.seconds.invariant (when_rest _ (when_rest _ (when_no _ (told _ _ (rw
+    c.owner-o.ensures at c.leaks.ensures) c.if-leaks.false))))
 
 pub firsts-preserved : goal.firsts-preserved
 firsts-preserved c = search (sweep, when_rest)
 
-pub overflow_step-a-in-actions : goal.overflow_step-a-in-actions
-overflow_step-a-in-actions c = omega arith
-
-pub actions-smaller : goal.actions-smaller
-actions-smaller c = omega arith
-
 pub actions-preserved : goal.actions-preserved
 actions-preserved c = search sweep
 
-pub returns-after-actions : goal.returns-after-actions
-returns-after-actions c =
-    let k = c.args in
-    answer_none (output_is k.machine [] k.outputs.now k.views.now) c.actions.invariant.1 (first_of_none _ _ c.actions-test.false
-    c.actions.invariant.2)
+pub returns : goal.returns
+returns c =
+    let k = c.args.tables.now in
+    answer_none (output_is k.model.now.machine [] c.args.outputs.now k.views.now) (first_of_none _ _ c.actions-test.false c.actions.invariant)
 
 pub returns-then-leaks : goal.returns-then-leaks
+unfolding answer
 returns-then-leaks c =
-    let k = c.args in
-    answer_output _ _ _ (output_is k.machine [] k.outputs.now k.views.now) (first_of_hit _ _ _ _ c.actions-test.true
-    c.actions.invariant.2 (first_of_hit _ _ _ _ c.firsts-test.true c.firsts.invariant.2 (when_hit _ _ refl (first_of_hit _ _ _ _
-    c.seconds-test.true c.seconds.invariant.3 (pair_hit _ _ _ _ c.seconds.invariant.1 (when_hit _ _ (told _ _ (rw c.owner-o.ensures at
+    let k = c.args.tables.now in
+    answer_place (output _ _ _) (output_is k.model.now.machine [] c.args.outputs.now k.views.now) (first_of_hit _ _ _ _ c.actions-test.true
+    c.actions.invariant (first_of_hit _ _ _ _ c.firsts-test.true c.firsts.invariant (when_hit _ _ refl (first_of_hit _ _ _ _
+    c.seconds-test.true c.seconds.invariant (pair_hit c.firsts.s c.seconds.t _ _ (omega (arith, c.seconds.auto.t)) (when_hit _ _ (told _ _ (rw c.owner-o.ensures at
     c.leaks.ensures) c.if-leaks.true) refl))))))

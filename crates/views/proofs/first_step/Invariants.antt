@@ -1,34 +1,17 @@
--- `views::first_step` meets its contract. Each loop's invariant: its number is at most the range's end, nothing is found yet, and the search that the loop makes gives nothing below its number.
+-- `views::first_step` meets its contract. Each loop's invariant: the search that the loop makes gives nothing below its number.
 -- Assumes nothing.
-use mathlib.Core.Path.{◌≡◌}
-use Prim.Native.Nat.{◌≤◌, ◌<◌, ◌-◌}
 use Rattle.laws.specs.Search.{Passed}
-use Rattle.views.specs.declared.Judgement.TheVariants.{Accepted}
-use lib.ListN.{length}
-use Rattle.views.specs.Guards.{SPOTS}
 use Rattle.views.proofs.Searches.{step_at, step_from, step_under, step_of}
 use Rattle.views.proofs.first_step.Given as goal
 
 abbrev pub invariant-seconds : goal.invariant-seconds
-invariant-seconds l = (l.t ≤ l.states) × (l.s < l.t) × (l.found ≡ Accepted) × Passed l.t (step_at l.states l.actions l.owners l.next l.views l.u l.a l.s)
-
-abbrev pub decreases-seconds : goal.decreases-seconds
-decreases-seconds l = l.states - l.t
+invariant-seconds l = Passed l.t (step_at l.sizes.states l.sizes.actions l.tables.model.now.machine.owners l.tables.next.now l.tables.views.now l.u l.a l.s)
 
 abbrev pub invariant-firsts : goal.invariant-firsts
-invariant-firsts l = (l.s ≤ l.states) × (l.found ≡ Accepted) × Passed l.s (step_from l.states l.actions l.owners l.next l.views l.u l.a)
-
-abbrev pub decreases-firsts : goal.decreases-firsts
-decreases-firsts l = l.states - l.s
+invariant-firsts l = Passed l.s (step_from l.sizes.states l.sizes.actions l.tables.model.now.machine.owners l.tables.next.now l.tables.views.now l.u l.a)
 
 abbrev pub invariant-actions : goal.invariant-actions
-invariant-actions l = (l.a ≤ l.actions) × (l.found ≡ Accepted) × Passed l.a (step_under l.states l.actions l.owners l.next l.views l.u) × (length l.table ≡ SPOTS)
-
-abbrev pub decreases-actions : goal.decreases-actions
-decreases-actions l = l.actions - l.a
+invariant-actions l = Passed l.a (step_under l.sizes.states l.sizes.actions l.tables.model.now.machine.owners l.tables.next.now l.tables.views.now l.u)
 
 abbrev pub invariant-boxes : goal.invariant-boxes
-invariant-boxes l = (l.u ≤ l.boxes) × (l.found ≡ Accepted) × Passed l.u (step_of l.states l.actions l.owners l.next l.views) × (length l.table ≡ SPOTS)
-
-abbrev pub decreases-boxes : goal.decreases-boxes
-decreases-boxes l = l.boxes - l.u
+invariant-boxes l = Passed l.u (step_of l.sizes.states l.sizes.actions l.tables.model.now.machine.owners l.tables.next.now l.tables.views.now)

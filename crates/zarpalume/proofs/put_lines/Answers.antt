@@ -16,7 +16,7 @@ returns c =
     let u = lent v (omega (arith, i, j, room, vl)) c.put_depths.ensures.0 in
     let ul = written_length u (omega (arith, i, j, k, room)) in
     let a = c.args in (
-      same_as (joined a.model.ids a.list.now a.needs.depths (views_line a.model.ids a.model.machine.owners a.judgement) a.model.machine.sizes.boxes _ _ a.needs c.pairs.ensures c.reached.ensures)
+      same_as (joined a.model.now.ids a.list.now a.needs.now.depths (views_line a.model.now.ids a.model.now.machine.owners a.judged) a.model.now.machine.sizes.boxes a.needs.now)
           (lent u (omega (arith, i, j, k, room, ul)) c.put_reach.ensures.0),
       omega (arith, i, j, k, c.put_reach.ensures.1),
     )

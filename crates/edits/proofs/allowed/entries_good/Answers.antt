@@ -1,24 +1,12 @@
 -- `edits::allowed::entries_good` meets its contract. Assumes nothing.
-use Rattle.laws.proofs.Loops.{each}
+use Rattle.std.proofs.Common.{refl, arith, ◌∙◌, rules, tests}
+use Rattle.std.proofs.lemmas.Iterator.{YieldsList-from_range}
+use Rattle.std.proofs.lemmas.Iterator.Search.{all_from_yields_List}
+use Rattle.edits.specs.Allowed.{good_entry}
+use Rattle.edits.proofs.Chains.{all_range}
 use Rattle.edits.proofs.allowed.entries_good.Goals as goal
 
-pub entries-init : goal.entries-init
-entries-init c = search each
-
-pub entry_good-requires : goal.entry_good-requires
-entry_good-requires c = search each
-
-pub overflow_step-k : goal.overflow_step-k
-overflow_step-k c = search each
-
-pub entries-smaller : goal.entries-smaller
-entries-smaller c = search each
-
-pub entries-preserved : goal.entries-preserved
-entries-preserved c = search each
-
-pub returns-in-entries : goal.returns-in-entries
-returns-in-entries c = search each
-
 pub returns : goal.returns
-returns c = search each
+returns c =
+    all_from_yields_List (good_entry c.args.past.words.now) _ _ _ c.all.ensures.ran (YieldsList-from_range 0 c.args.past.count c.args.past.count refl (omega arith)) (λ x b q k. search (rules, tests))
+    ∙ all_range c.args.past.count (good_entry c.args.past.words.now)

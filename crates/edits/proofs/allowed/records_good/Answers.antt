@@ -1,22 +1,15 @@
 -- `edits::allowed::records_good` meets its contract. Assumes nothing.
-use Rattle.laws.proofs.Tests.{told}
-use Rattle.laws.proofs.Loops.{each, every_yes, every_no}
+use Rattle.std.proofs.Common.{refl, ◌∙◌, rules, tests}
+use Rattle.std.proofs.lemmas.Iterator.{YieldsList-from_range}
+use Rattle.std.proofs.lemmas.Iterator.Search.{all_from_yields_List}
+use Rattle.model.specs.Limits.{BOXES}
+use Rattle.edits.specs.Records.{boxes}
+use Rattle.edits.specs.Allowed.{good_at}
+use Rattle.edits.specs.Private.{said}
+use Rattle.edits.proofs.Chains.{all_range}
 use Rattle.edits.proofs.allowed.records_good.Goals as goal
 
-pub boxes-init : goal.boxes-init
-boxes-init c = search each
-
-pub overflow_step-k : goal.overflow_step-k
-overflow_step-k c = search each
-
-pub boxes-smaller : goal.boxes-smaller
-boxes-smaller c = search each
-
-pub boxes-preserved : goal.boxes-preserved
-boxes-preserved c = search each
-
-pub returns-in-boxes : goal.returns-in-boxes
-returns-in-boxes c = rw (← c.boxes_of-n.ensures) (every_no _ _ _ c.boxes-test.true (told _ _ c.record_good.ensures c.if-record_good.false))
-
 pub returns : goal.returns
-returns c = rw (← c.boxes_of-n.ensures) (every_yes _ _ c.boxes-test.false c.boxes.invariant.1)
+returns c =
+    all_from_yields_List (good_at c.args.list.now (said c.args.past) (boxes c.args.list.now)) _ _ _ c.all.ensures.ran (YieldsList-from_range 0 BOXES BOXES refl refl) (λ x b q k. search (rules, tests))
+    ∙ all_range BOXES (good_at c.args.list.now (said c.args.past) (boxes c.args.list.now))

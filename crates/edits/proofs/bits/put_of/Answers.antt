@@ -1,8 +1,19 @@
 -- `edits::bits::put_of` meets its contract. Assumes nothing.
+use Rattle.std.proofs.Common.{◌≡◌, refl, ◌∙◌, Bool, true, false, ◌<◌}
 use native.Mathlib.Nat.{div-le_self}
 use native.Mathlib.Omega.{arith}
+use mir.Val.{bool_byte}
 use Rattle.laws.proofs.Bits.{put_is, put_room, power_pos}
+use Rattle.edits.specs.Private.{one_if}
 use Rattle.edits.proofs.bits.put_of.Goals as goal
+
+byte_is : (b : Bool) → bool_byte b ≡ one_if b
+byte_is true = refl
+byte_is false = refl
+
+byte_small : (b : Bool) → bool_byte b < 2
+byte_small true = omega arith
+byte_small false = omega arith
 
 pub nonzero_rem-result : goal.nonzero_rem-result
 nonzero_rem-result c = omega (arith, power_pos c.args.p)
@@ -14,13 +25,17 @@ pub overflow_mul-result : goal.overflow_mul-result
 overflow_mul-result c = record { fits = omega (arith, div-le_self c.args.set c.power-low.result) }
 
 pub overflow_add-result : goal.overflow_add-result
-overflow_add-result c = record { fits = omega (arith, div-le_self c.args.set c.power-low.result) }
+overflow_add-result c = record { fits = omega (arith, c.from.ensures, byte_small c.args.b, div-le_self c.args.set c.power-low.result) }
 
 pub overflow_mul-result-2 : goal.overflow_mul-result-2
-overflow_mul-result-2 c = record { fits = omega (arith, put_room c.args.p c.args.b c.args.set c.power-low.result c.power-low.ensures (omega arith) c.requires.1.0 c.requires.1.1) }
+overflow_mul-result-2 c =
+    let s : c.from.result < 2 = omega (arith, c.from.ensures, byte_small c.args.b) in
+    record { fits = omega (arith, put_room c.args.p c.from.result c.args.set c.power-low.result c.power-low.ensures (omega arith) s c.requires.1) }
 
 pub overflow_add-result-2 : goal.overflow_add-result-2
-overflow_add-result-2 c = record { fits = omega (arith, put_room c.args.p c.args.b c.args.set c.power-low.result c.power-low.ensures (omega arith) c.requires.1.0 c.requires.1.1) }
+overflow_add-result-2 c =
+    let s : c.from.result < 2 = omega (arith, c.from.ensures, byte_small c.args.b) in
+    record { fits = omega (arith, put_room c.args.p c.from.result c.args.set c.power-low.result c.power-low.ensures (omega arith) s c.requires.1) }
 
 pub returns : goal.returns
-returns c = rw c.power-low.ensures (put_is c.args.p c.args.b c.args.set)
+returns c = rw (c.power-low.ensures, c.from.ensures ∙ byte_is c.args.b) (put_is c.args.p (one_if c.args.b) c.args.set)

@@ -1,40 +1,15 @@
 -- `edits::boxes::boxes_of` meets its contract. Assumes nothing.
-use Rattle.laws.proofs.Firsts.{seek}
-use Rattle.edits.specs.Records.{boxes}
+use Rattle.std.proofs.Common.{ap, ◌∙◌, not, rules, tests}
+use Rattle.std.specs.Option.{unwrap_or}
+use Rattle.std.proofs.lemmas.Iterator.{YieldsList-from_slice}
+use Rattle.std.proofs.lemmas.Iterator.Search.{position_from_yields_List}
+use Rattle.model.specs.Limits.{BOXES}
+use Rattle.edits.specs.Records.{lives}
+use Rattle.edits.proofs.Found.{boxes_option}
 use Rattle.edits.proofs.boxes.boxes_of.Goals as goal
 
-pub boxes-init : goal.boxes-init
-unfolding boxes
-boxes-init c = search seek
-
-pub offset_bounds-list-k : goal.offset_bounds-list-k
-unfolding boxes
-offset_bounds-list-k c = search seek
-
-pub bounds-list-k : goal.bounds-list-k
-unfolding boxes
-bounds-list-k c = search seek
-
-pub is_live-requires : goal.is_live-requires
-unfolding boxes
-is_live-requires c = search seek
-
-pub overflow_step-k : goal.overflow_step-k
-unfolding boxes
-overflow_step-k c = search seek
-
-pub boxes-smaller : goal.boxes-smaller
-unfolding boxes
-boxes-smaller c = search seek
-
-pub boxes-preserved : goal.boxes-preserved
-unfolding boxes
-boxes-preserved c = search seek
-
-pub returns-in-boxes : goal.returns-in-boxes
-unfolding boxes
-returns-in-boxes c = search seek
-
 pub returns : goal.returns
-unfolding boxes
-returns c = search seek
+returns c =
+    let l = c.args.list.now in
+    let found = position_from_yields_List (λ b. not (lives b)) _ _ c.position.result c.position.ensures.ran (YieldsList-from_slice l cc) (λ x b q k. search (rules, tests)) in
+    c.unwrap_or.ensures ∙ ap (λ r. unwrap_or r BOXES) found ∙ boxes_option l c.told-list

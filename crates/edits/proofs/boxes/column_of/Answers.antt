@@ -1,37 +1,35 @@
 -- `edits::boxes::column_of` meets its contract. Assumes nothing.
-use mathlib.Core.Path.{◌≡◌, refl, ap, ◌∙◌}
-use Prim.Native.Nat.{ℕ, ◌-◌}
-use native.Mathlib.Nat.{add_comm, mul_comm}
-use native.Mathlib.Omega.{arith}
+use Rattle.std.proofs.Common.{◌≡◌, ◌<◌, ◌^◌, ℕ, refl, sym, ap, ◌∙◌, arith}
 use Rattle.laws.specs.Bits.{gather}
-use Rattle.laws.proofs.Bits.{bit_below, gather_small, gather_more, power_small}
-use Rattle.model.specs.Limits.{BOXES}
+use Rattle.laws.proofs.Bits.{bit_below, bit_high, gather_small}
 use Rattle.edits.specs.Records.{at}
 use Rattle.edits.specs.Moved.{arrow_into, column_of}
+use Rattle.edits.specs.Private.{one_if}
+use Rattle.edits.proofs.Chains.{gather_yes, gather_no}
+use Rattle.model.specs.Limits.{BOXES}
 use Rattle.edits.proofs.boxes.column_of.Goals as goal
+use Rattle.edits.proofs.boxes.column_of.Goals.{then-has, else-has}
 
-pub boxes-init : goal.boxes-init
+pub loop-k-init : goal.loop-k-init
 unfolding gather
-boxes-init c = (omega arith, refl)
+loop-k-init c = refl
 
-pub overflow_sub-k : goal.overflow_sub-k
-overflow_sub-k c = omega arith
+pub with_bit-column-requires : goal.with_bit-column-requires
+with_bit-column-requires c =
+    let f = arrow_into c.args.list.now c.args.p in
+    let s : gather 0 c.loop-k.k f < 2 ^ c.loop-k.k = gather_small 0 c.loop-k.k f (λ j. bit_below c.args.p (at c.args.list.now j).arrows) in
+    (omega arith, bit_high c.loop-k.k c.loop-k.k c.loop-k.column (omega (arith, c.loop-k.invariant)) (omega arith))
 
-pub overflow_mul-column : goal.overflow_mul-column
-overflow_mul-column c = record { fits = omega (arith, gather_small c.boxes.k (BOXES - c.boxes.k) (arrow_into c.args.list c.args.p) (λ j. bit_below c.args.p (at c.args.list j).arrows), power_small (BOXES - c.boxes.k) 31 (omega arith)) }
-
-pub arrow_into-requires : goal.arrow_into-requires
-arrow_into-requires c = omega arith
-
-pub overflow_add-column : goal.overflow_add-column
-overflow_add-column c = record { fits = omega (arith, gather_small c.boxes.k (BOXES - c.boxes.k) (arrow_into c.args.list c.args.p) (λ j. bit_below c.args.p (at c.args.list j).arrows), power_small (BOXES - c.boxes.k) 31 (omega arith), c.arrow_into.ensures, bit_below c.args.p (at c.args.list (c.boxes.k - 1)).arrows) }
-
-pub boxes-smaller : goal.boxes-smaller
-boxes-smaller c = omega arith
-
-pub boxes-preserved : goal.boxes-preserved
-boxes-preserved c = (omega arith, rw (c.boxes.invariant.1, c.arrow_into.ensures) (add_comm _ _ ∙ rw mul_comm (gather_more BOXES c.boxes.k (arrow_into c.args.list c.args.p) (omega arith) (omega arith))))
+pub loop-k-preserved : goal.loop-k-preserved
+loop-k-preserved c =
+    let f = arrow_into c.args.list.now c.args.p in
+    elim c.if-has.branch [
+      | then-has w ↦ omega (arith, w.column-is, w.with_bit-column.ensures, c.loop-k.invariant, gather_yes c.loop-k.k f (sym c.has.ensures.number ∙ ap one_if w.if-has.true))
+      | else-has w ↦ omega (arith, w.column-is, c.loop-k.invariant, gather_no c.loop-k.k f (sym c.has.ensures.number ∙ ap one_if w.if-has.false))
+    ]
 
 pub returns : goal.returns
 unfolding column_of
-returns c = let e : c.boxes.k ≡ 0 = omega arith in c.boxes.invariant.1 ∙ ap (λ (m : ℕ). gather m (BOXES - m) (arrow_into c.args.list c.args.p)) e
+returns c =
+    let e : c.loop-k.k ≡ BOXES = omega arith in
+    c.loop-k.invariant ∙ ap (λ (m : ℕ). gather 0 m (arrow_into c.args.list.now c.args.p)) e

@@ -1,40 +1,13 @@
 -- `edits::boxes::place_of` meets its contract. Assumes nothing.
-use Rattle.laws.proofs.Firsts.{seek}
-use Rattle.edits.specs.Records.{place}
+use Rattle.std.proofs.Common.{◌∙◌, rules, tests}
+use Rattle.std.proofs.lemmas.Iterator.{YieldsList-from_slice}
+use Rattle.std.proofs.lemmas.Iterator.Search.{position_from_yields_List}
+use Rattle.edits.specs.Records.{is_with}
+use Rattle.edits.proofs.Found.{place_option}
 use Rattle.edits.proofs.boxes.place_of.Goals as goal
 
-pub boxes-init : goal.boxes-init
-unfolding place
-boxes-init c = search seek
-
-pub offset_bounds-list-k : goal.offset_bounds-list-k
-unfolding place
-offset_bounds-list-k c = search seek
-
-pub bounds-list-k : goal.bounds-list-k
-unfolding place
-bounds-list-k c = search seek
-
-pub is_with-requires : goal.is_with-requires
-unfolding place
-is_with-requires c = search seek
-
-pub returns-then-is_with : goal.returns-then-is_with
-unfolding place
-returns-then-is_with c = search seek
-
-pub overflow_step-k : goal.overflow_step-k
-unfolding place
-overflow_step-k c = search seek
-
-pub boxes-smaller : goal.boxes-smaller
-unfolding place
-boxes-smaller c = search seek
-
-pub boxes-preserved : goal.boxes-preserved
-unfolding place
-boxes-preserved c = search seek
-
-pub returns : goal.returns
-unfolding place
-returns c = search seek
+pub returns-clause-place : goal.returns-clause-place
+returns-clause-place c =
+    let l = c.args.list.now in
+    position_from_yields_List (λ b. is_with b c.args.id) _ _ c.position.result c.position.ensures.ran (YieldsList-from_slice l cc) (λ x b q k. search (rules, tests))
+    ∙ place_option l c.args.id c.told-list

@@ -1,23 +1,22 @@
 -- `edits::call::change` meets its contract. Assumes nothing.
-use mathlib.Core.Path.{refl, ◌∙◌}
-use native.Mathlib.Omega.{arith}
-use Rattle.edits.proofs.Called.{few, doable, planned_kept, planned_done}
+use Rattle.std.proofs.Common.{◌≡◌, ◌≤◌, sym, ◌∙◌, arith}
+use Rattle.model.specs.Limits.{EDITS}
+use Rattle.edits.specs.History.{past}
+use Rattle.edits.proofs.Gave.{plan_room}
+use Rattle.edits.proofs.Called.{few, doable}
 use Rattle.edits.proofs.call.change.Goals as goal
 
-pub plan_of-plan-requires : goal.plan_of-plan-requires
-plan_of-plan-requires c = (c.requires.words_len, few _ _ _ c.requires.words_value)
+pub invariant_of-past : goal.invariant_of-past
+invariant_of-past c = record { few = few _ _ _ c.requires }
 
-pub returns-then-number-ne0 : goal.returns-then-number-ne0
-returns-then-number-ne0 c = planned_kept _ _ _ _ _ _ (c.answer.ensures.0 ∙ rw c.plan_of-plan.ensures) c.answer.ensures.1 (rw (← c.plan_of-plan.ensures) c.if-number-ne0.true)
+pub make-requires : goal.make-requires
+make-requires c = doable _ _ _ _ (sym c.plan_of.ensures ∙ c.in_ok-e.was)
 
-pub done_of-after-requires : goal.done_of-after-requires
-done_of-after-requires c = doable _ _ _ _ c.plan_of-plan.ensures c.if-number-ne0.false
-
-pub write_end-requires : goal.write_end-requires
-write_end-requires c = (c.requires.words_len, few _ _ _ c.requires.words_value)
+pub push-requires : goal.push-requires
+push-requires c =
+    let full : c.args.count.now ≡ EDITS → ⊥ = plan_room c.args.list.now (past c.args.count.now c.args.words.now) _ _ (sym c.plan_of.ensures ∙ c.in_ok-e.was) in
+    let most : c.args.count.now ≤ EDITS = few _ _ _ c.requires in
+    omega arith
 
 pub overflow_add-count : goal.overflow_add-count
-overflow_add-count c = record { fits = omega (arith, few _ _ _ c.requires.words_value) }
-
-pub returns : goal.returns
-returns c = planned_done _ _ _ _ _ _ _ _ c.answer-2.ensures.0 (c.answer-2.ensures.1 ∙ c.done_of-after.ensures ∙ rw c.plan_of-plan.ensures) (rw (← c.plan_of-plan.ensures) c.if-number-ne0.false) refl (c.write_end.ensures ∙ rw c.plan_of-plan.ensures)
+overflow_add-count c = record { fits = omega (arith, few _ _ _ c.requires) }

@@ -1,6 +1,5 @@
 -- `needs::arrows::wanted` meets its contract.
--- Assumes nothing.
-use native.Mathlib.Omega.{arith}
+use Rattle.std.proofs.Common.{refl}
 use borrow.Author.Tests.{eq-eqb, ne_eqb}
 use Rattle.laws.specs.Choice.{both}
 use Rattle.needs.specs.Marks.{wanted_in}
@@ -8,11 +7,8 @@ use Rattle.needs.proofs.arrows.wanted.Goals as goal
 
 pub returns-then-v-u : goal.returns-then-v-u
 unfolding wanted_in both
-returns-then-v-u c = rw (eq-eqb _ _ c.if-v-u.true)
+returns-then-v-u c = rw (ne_eqb _ _ c.if-v-u.true) refl
 
-pub overflow_add-result : goal.overflow_add-result
-overflow_add-result c = omega arith
-
-pub returns : goal.returns
+pub returns-else-v-u : goal.returns-else-v-u
 unfolding wanted_in both
-returns c = rw (ne_eqb _ _ c.if-v-u.false)
+returns-else-v-u c = rw (eq-eqb _ _ c.if-v-u.false) refl

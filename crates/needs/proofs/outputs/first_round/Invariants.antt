@@ -1,6 +1,4 @@
 -- `needs::outputs::first_round` meets its contract. The loop's invariant: the class numbers of the states passed stand in d, and their small numbers have starts.
--- Assumes nothing.
-use Prim.Native.Nat.{◌≤◌, ◌-◌}
 use Rattle.reach.specs.Set.{flag_at}
 use Rattle.needs.specs.Classes.{Led}
 use Rattle.needs.specs.Starts.{Begun}
@@ -8,8 +6,5 @@ use Rattle.needs.specs.Own.{seen_by, output_slot, no_class}
 use Rattle.needs.proofs.outputs.first_round.Given as goal
 
 abbrev pub invariant-states : goal.invariant-states
-invariant-states l = (l.s ≤ l.states) × Led (flag_at l.inside) (seen_by l.own l.count l.outputs l.actions) l.d l.s
-    × Begun (flag_at l.inside) (seen_by l.own l.count l.outputs l.actions) no_class (output_slot l.own l.count l.outputs l.actions) l.starts l.s
-
-abbrev pub decreases-states : goal.decreases-states
-decreases-states l = l.states - l.s
+invariant-states l = Led (flag_at l.inside) (seen_by l.outputs.own.list l.outputs.own.count l.outputs.table.now l.outputs.actions) l.d l.s
+    × Begun (flag_at l.inside) (seen_by l.outputs.own.list l.outputs.own.count l.outputs.table.now l.outputs.actions) no_class (output_slot l.outputs.own.list l.outputs.own.count l.outputs.table.now l.outputs.actions) l.starts l.s

@@ -1,55 +1,28 @@
 -- `needs::rounds::place` meets its contract.
--- Assumes nothing.
-use native.Mathlib.Omega.{arith}
-use mathlib.Core.Path.{◌∙◌, ap}
-use Rattle.needs.specs.Again.{kept_number}
-use Rattle.needs.proofs.Agreeing.{led_more}
-use Rattle.needs.proofs.Looking.{leads_keep, leads_put}
-use Rattle.needs.proofs.Moving.{longer_same, moved_more, moved_kept, moved_put}
+use Rattle.std.proofs.Common.{arith}
+use Rattle.needs.specs.Tables.{step_in}
+use Rattle.needs.proofs.Agreeing.{missed_start}
+use Rattle.needs.proofs.Moving.{longer_same, moved_put}
 use Rattle.needs.proofs.Starting.{below_small}
 use Rattle.needs.proofs.rounds.place.Goals as goal
 
-pub next_first-first-requires : goal.next_first-first-requires
-next_first-first-requires c =
-    let m = c.requires.s_lt_states in
-    record { steps = c.requires.steps; below = c.requires.below; led = c.requires.led; begun = c.requires.begun; s_lt_states = (m.0, m.1) }
+pub first_alike-first-requires-clause-missed : goal.first_alike-first-requires-clause-missed
+first_alike-first-requires-clause-missed c = let w = c.args.classes.now in missed_start (step_in w.walk.actions w.walk.next.now) w.walk.actions w.below c.requires.follows.0 c.from-old.ensures
 
-pub bounds-lead-old : goal.bounds-lead-old
-bounds-lead-old c =
-    let m = c.requires.s_lt_states in
-    below_small c.requires.steps c.requires.below m.0 c.wide-old.ensures
+pub returns-then-first-old-clause-moved_to : goal.returns-then-first-old-clause-moved_to
+returns-then-first-old-clause-moved_to c =
+    let w = c.args.classes.now in
+    let m = c.requires.follows in
+    let s = w.walk.steps.states_most in
+    let l = below_small w.walk.steps w.below m.0 c.from-old.ensures in
+    let k = c.speaks.ensures c.if-speaks.true in
+    moved_put c.requires.moved_to (omega (arith, s, m.0, c.requires.led.long)) _ w.below m.0 c.from-old.ensures (omega (arith, l, c.requires.leads.long)) (c.requires.unknown k.0) (omega (arith, c.first_alike-first.ensures.most, s, m.0)) (longer_same c.requires.moved_to.places) (λ z. absurd (z c.if-first-old.true))
 
-pub returns-then-first-old : goal.returns-then-first-old
-returns-then-first-old c =
-    let m = c.requires.s_lt_states in
-    let e = c.narrow-number.ensures ∙ c.next_first-first.ensures.value in
-    let w = led_more _ _ c.requires.led (omega (arith, c.requires.steps.states_most, m.0)) e in
-    let l = below_small c.requires.steps c.requires.below m.0 c.wide-old.ensures in
-    let k = c.speaks.ensures c.if-speaks.true in record { led_2 = w; leads_2 = leads_put c.requires.leads l c.wide-old.ensures k.0 k.1 e; begun_2 = c.next_first-first.ensures.begun_2; moved_to_2 = moved_put c.requires.moved_to (omega (arith, c.requires.steps.states_most, m.0, c.requires.led.long)) _ c.requires.below m.0 c.wide-old.ensures (omega (arith, l, c.requires.leads.long)) (c.requires.bound k.0) (omega (arith, c.narrow-number.ensures, c.next_first-first.ensures.upper_bound, c.requires.steps.states_most, m.0)) (longer_same c.requires.moved_to.places) (λ z. absurd (z (c.narrow-number.ensures ∙ c.if-first-old.true))) }
-
-pub returns-then-speaks : goal.returns-then-speaks
-returns-then-speaks c =
-    let m = c.requires.s_lt_states in
-    let e = c.narrow-number.ensures ∙ c.next_first-first.ensures.value in
-    let w = led_more _ _ c.requires.led (omega (arith, c.requires.steps.states_most, m.0)) e in
-    let l = below_small c.requires.steps c.requires.below m.0 c.wide-old.ensures in
-    let k = c.speaks.ensures c.if-speaks.true in record { led_2 = w; leads_2 = leads_put c.requires.leads l c.wide-old.ensures k.0 k.1 e; begun_2 = c.next_first-first.ensures.begun_2; moved_to_2 = moved_put c.requires.moved_to (omega (arith, c.requires.steps.states_most, m.0, c.requires.led.long)) _ c.requires.below m.0 c.wide-old.ensures (omega (arith, l, c.requires.leads.long)) (c.requires.bound k.0) (omega (arith, c.narrow-number.ensures, c.next_first-first.ensures.upper_bound, c.requires.steps.states_most, m.0)) c.stayed.ensures.longer (λ z. c.stayed.ensures.stayed) }
-
-pub kept-requires : goal.kept-requires
-kept-requires c =
-    let m = c.requires.s_lt_states in
-    below_small c.requires.steps c.requires.below m.0 c.wide-old.ensures
-
-pub returns-then-first-kept : goal.returns-then-first-kept
-returns-then-first-kept c =
-    let m = c.requires.s_lt_states in
-    let e = c.narrow-number.ensures ∙ c.next_first-first.ensures.value in
-    let w = led_more _ _ c.requires.led (omega (arith, c.requires.steps.states_most, m.0)) e in
-    record { led_2 = w; leads_2 = leads_keep c.requires.leads; begun_2 = c.next_first-first.ensures.begun_2; moved_to_2 = moved_kept c.requires.moved_to (omega (arith, c.requires.steps.states_most, m.0, c.requires.led.long)) _ (c.narrow-number.ensures ∙ c.if-first-kept.true ∙ c.kept.ensures ∙ ap (kept_number _) c.wide-old.ensures) }
-
-pub returns : goal.returns
-returns c =
-    let m = c.requires.s_lt_states in
-    let e = c.narrow-number.ensures ∙ c.next_first-first.ensures.value in
-    let w = led_more _ _ c.requires.led (omega (arith, c.requires.steps.states_most, m.0)) e in
-    record { led_2 = w; leads_2 = leads_keep c.requires.leads; begun_2 = c.next_first-first.ensures.begun_2; moved_to_2 = moved_more c.requires.moved_to (omega (arith, c.requires.steps.states_most, m.0, c.requires.led.long)) _ c.note.ensures.longer (λ l k. c.note.ensures.on l) }
+pub returns-then-speaks-clause-moved_to : goal.returns-then-speaks-clause-moved_to
+returns-then-speaks-clause-moved_to c =
+    let w = c.args.classes.now in
+    let m = c.requires.follows in
+    let s = w.walk.steps.states_most in
+    let l = below_small w.walk.steps w.below m.0 c.from-old.ensures in
+    let k = c.speaks.ensures c.if-speaks.true in
+    moved_put c.requires.moved_to (omega (arith, s, m.0, c.requires.led.long)) _ w.below m.0 c.from-old.ensures (omega (arith, l, c.requires.leads.long)) (c.requires.unknown k.0) (omega (arith, c.first_alike-first.ensures.most, s, m.0)) c.note_stayed.ensures.longer (λ z. c.note_stayed.ensures.stayed)

@@ -1,18 +1,20 @@
 -- `needs::rounds::still` meets its contract.
--- Assumes nothing.
-use mathlib.Core.Path.{sym}
+use Rattle.std.proofs.Common.{◌≡◌, refl, sym, ◌∙◌, Bool, true, false, not}
 use borrow.Author.Tests.{eq-eqb, ne_eqb}
 use Rattle.laws.specs.Choice.{brings}
-use Rattle.laws.proofs.Tests.{brings_of, both_no, not_both}
-use Rattle.needs.proofs.Moving.{both_still}
+use Rattle.laws.proofs.Tests.{and_on, and_off, brings_of}
 use Rattle.needs.proofs.rounds.still.Goals as goal
 
-pub returns-then-c-s : goal.returns-then-c-s
-returns-then-c-s c = both_still _ (brings_of _ (λ i. eq-eqb _ _ c.if-c-s.true))
-
-pub returns-then-inside-s : goal.returns-then-inside-s
+brings_no : (a : Bool) {b : Bool} → b ≡ false → not a ≡ brings a b
 unfolding brings
-returns-then-inside-s c = sym (both_no _ (rw (c.if-inside-s.true, ne_eqb _ _ c.if-c-s.false)))
+brings_no true e = sym e
+brings_no false e = refl
 
-pub returns : goal.returns
-returns c = both_still _ (brings_of _ (λ i. not_both i c.if-inside-s.false))
+pub returns-then-c-s : goal.returns-then-c-s
+returns-then-c-s c = and_on _ refl c.if-same.true (eq-eqb _ _ c.if-c-s.true ∙ sym (brings_of _ (λ i. eq-eqb _ _ c.if-c-s.true)))
+
+pub returns-else-c-s : goal.returns-else-c-s
+returns-else-c-s c = and_on _ refl c.if-same.true (brings_no _ (ne_eqb _ _ c.if-c-s.false))
+
+pub returns-else-same : goal.returns-else-same
+returns-else-same c = and_off _ refl c.if-same.false

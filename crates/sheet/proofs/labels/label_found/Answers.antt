@@ -1,22 +1,23 @@
 -- `sheet::labels::label_found` meets its contract. Assumes nothing.
-use mathlib.Core.Path.{refl}
+use Rattle.std.proofs.Common.{refl}
+use Rattle.std.proofs.lemmas.Result.{err_from_is_err_and}
 use Rattle.sheet.specs.Reading.{zeros}
-use Rattle.sheet.proofs.LabelPlace.{found_refused, found_box, found_place, found_none}
+use Rattle.sheet.proofs.LabelPlace.{found_box, found_place, found_refused, found_none}
 use Rattle.sheet.proofs.labels.label_found.Goals as goal
 
-pub read_text-sheet-requires : goal.read_text-sheet-requires
+pub read_text-requires : goal.read_text-requires
 unfolding zeros
-read_text-sheet-requires c = (refl, refl, refl)
+read_text-requires c = (refl, refl, refl)
 
-pub label_place-place-requires : goal.label_place-place-requires
-label_place-place-requires c = let b = found_box c.args.text.now c.read_text-sheet.result.answer _ c.read_text-sheet.ensures c.args.position c.in-Model.is c.if-position-sizes.true in
+pub returns-in_err-model : goal.returns-in_err-model
+returns-in_err-model c = let p = err_from_is_err_and c.from_residual.result c.from_residual.ensures.1 in rw (p.1, p.2) (found_refused c.args.text.now c.read_text.result _ _ c.read_text.ensures c.args.position _ c.in_err-model.was)
+
+pub label_place-requires : goal.label_place-requires
+label_place-requires c = let b = found_box c.args.text.now c.read_text.result _ _ c.read_text.ensures c.args.position c.in_ok-model.was c.if-position-model.true in
     (b.closed, b.small, b.there, b.is.three)
 
-pub returns-then-position-sizes : goal.returns-then-position-sizes
-returns-then-position-sizes c = found_place c.args.text.now c.read_text-sheet.result.answer _ c.read_text-sheet.ensures c.args.position c.in-Model.is c.if-position-sizes.true c.label_place-place.ensures
+pub returns-then-position-model : goal.returns-then-position-model
+returns-then-position-model c = found_place c.args.text.now c.read_text.result _ _ c.read_text.ensures c.args.position c.in_ok-model.was c.if-position-model.true c.label_place.ensures
 
-pub returns-in-Refused : goal.returns-in-Refused
-returns-in-Refused c = found_refused c.args.text.now c.read_text-sheet.result.answer _ c.read_text-sheet.ensures c.args.position c.in-Refused.is
-
-pub returns-else-position-sizes : goal.returns-else-position-sizes
-returns-else-position-sizes c = found_none c.args.text.now c.read_text-sheet.result.answer _ c.read_text-sheet.ensures c.args.position c.in-Model.is c.if-position-sizes.false
+pub returns-else-position-model : goal.returns-else-position-model
+returns-else-position-model c = found_none c.args.text.now c.read_text.result _ _ c.read_text.ensures c.args.position c.in_ok-model.was c.if-position-model.false

@@ -9,6 +9,6 @@ pub returns-then-starts : goal.returns-then-starts
 unfolding box_line
 returns-then-starts c = let s = sym c.starts.ensures ∙ c.if-starts.true in rw (← rest_after _ words.box s) (rw s c.box_from.ensures)
 
-pub returns : goal.returns
+pub returns-else-starts : goal.returns-else-starts
 unfolding box_line
-returns c = rw (sym c.starts.ensures ∙ c.if-starts.false)
+returns-else-starts c = rw (sym c.starts.ensures ∙ c.if-starts.false)

@@ -1,24 +1,25 @@
--- `sheet::flow_line` meets its contract. Assumes nothing.
-use mathlib.Core.Path.{sym, ◌∙◌}
+-- `sheet::lines::flow_line` meets its contract. Assumes nothing.
+use Rattle.std.proofs.Common.{sym, ◌∙◌}
+use Rattle.std.proofs.lemmas.Result.{err_from_is_err_and}
 use Rattle.sheet.specs.Records.{flow_line}
 use Rattle.sheet.proofs.lines.flow_line.Goals as goal
 
-pub returns-in-Not : goal.returns-in-Not
+pub returns-in_err-numbers : goal.returns-in_err-numbers
 unfolding flow_line
-returns-in-Not c = rw (sym c.starts.ensures ∙ c.if-starts.true, sym c.arrow_line.ensures ∙ c.in-Not.is)
+returns-in_err-numbers c = let p = err_from_is_err_and c.from_residual.result c.from_residual.ensures.1 in rw (p.1, p.2) (rw (sym c.starts.ensures ∙ c.if-starts.true, sym c.arrow_line.ensures ∙ c.in_err-numbers.was))
 
-pub returns-in-Numbers : goal.returns-in-Numbers
+pub returns-in_err-numbers-2 : goal.returns-in_err-numbers-2
 unfolding flow_line
-returns-in-Numbers c = rw (sym c.starts.ensures ∙ c.if-starts.true, sym c.arrow_line.ensures ∙ c.in-Numbers.is)
+returns-in_err-numbers-2 c = let p = err_from_is_err_and c.from_residual-in_err-numbers-2.result c.from_residual-in_err-numbers-2.ensures.1 in rw (p.1, p.2) (rw (sym c.starts.ensures ∙ c.if-starts.false, sym c.starts-else-starts.ensures ∙ c.if-starts-2.true, sym c.arrow_line-then-starts-2.ensures ∙ c.in_err-numbers-2.was))
 
-pub returns-in-Not-arrow_line : goal.returns-in-Not-arrow_line
+pub returns-in_ok-numbers : goal.returns-in_ok-numbers
 unfolding flow_line
-returns-in-Not-arrow_line c = rw (sym c.starts.ensures ∙ c.if-starts.false, sym c.starts-2.ensures ∙ c.if-starts-2.true, sym c.arrow_line-then-starts-2.ensures ∙ c.in-Not-arrow_line.is)
+returns-in_ok-numbers c = rw (sym c.starts.ensures ∙ c.if-starts.true, sym c.arrow_line.ensures ∙ c.in_ok-numbers.was)
 
-pub returns-in-Numbers-arrow_line : goal.returns-in-Numbers-arrow_line
+pub returns-in_ok-numbers-2 : goal.returns-in_ok-numbers-2
 unfolding flow_line
-returns-in-Numbers-arrow_line c = rw (sym c.starts.ensures ∙ c.if-starts.false, sym c.starts-2.ensures ∙ c.if-starts-2.true, sym c.arrow_line-then-starts-2.ensures ∙ c.in-Numbers-arrow_line.is)
+returns-in_ok-numbers-2 c = rw (sym c.starts.ensures ∙ c.if-starts.false, sym c.starts-else-starts.ensures ∙ c.if-starts-2.true, sym c.arrow_line-then-starts-2.ensures ∙ c.in_ok-numbers-2.was)
 
-pub returns : goal.returns
+pub returns-else-starts-2 : goal.returns-else-starts-2
 unfolding flow_line
-returns c = rw (sym c.starts.ensures ∙ c.if-starts.false, sym c.starts-2.ensures ∙ c.if-starts-2.false)
+returns-else-starts-2 c = rw (sym c.starts.ensures ∙ c.if-starts.false, sym c.starts-else-starts.ensures ∙ c.if-starts-2.false)

@@ -1,25 +1,22 @@
--- `sheet::go_line` meets its contract. Assumes nothing.
-use mathlib.Core.Path.{sym, ◌∙◌}
-use borrow.Author.Tests.{eq-eqb, ne_eqb, lt-ltb, le-ltb}
+-- `sheet::lines::go_line` meets its contract. Assumes nothing.
+use Rattle.std.proofs.Common.{sym, ◌∙◌, le-ltb, lt-ltb, eq-eqb, ne_eqb}
+use Rattle.std.proofs.lemmas.Result.{err_from_is_err_and}
 use Rattle.sheet.specs.Records.{go_line}
 use Rattle.sheet.proofs.lines.go_line.Goals as goal
+use Rattle.sheet.proofs.lines.go_line.Goals.{else-numbers-state-via-then-numbers-state+then-numbers-action+else-numbers-states, else-numbers-state-via-then-numbers-state+else-numbers-action, else-numbers-state-via-else-numbers-state}
 
-pub returns-then-s-state : goal.returns-then-s-state
+pub returns-in_err-numbers : goal.returns-in_err-numbers
 unfolding go_line
-returns-then-s-state c = simp (sym c.record_of.ensures ∙ c.in-Numbers.is, ne_eqb _ _ c.if-s-state.true)
+returns-in_err-numbers c = let p = err_from_is_err_and c.from_residual.result c.from_residual.ensures.1 in rw (p.1, p.2) (rw (sym c.record_of.ensures ∙ c.in_err-numbers.was))
 
-pub returns-then-a-action : goal.returns-then-a-action
+pub returns-then-numbers-states : goal.returns-then-numbers-states
 unfolding go_line
-returns-then-a-action c = simp (sym c.record_of.ensures ∙ c.in-Numbers.is, eq-eqb _ _ c.if-s-state.false, ne_eqb _ _ c.if-a-action.true)
+returns-then-numbers-states c = simp (sym c.record_of.ensures ∙ c.in_ok-numbers.was, eq-eqb _ _ c.if-numbers-state.true, eq-eqb _ _ c.if-numbers-action.true, lt-ltb _ _ c.if-numbers-states.true)
 
-pub returns-then-next-states : goal.returns-then-next-states
+pub returns-else-numbers-state : goal.returns-else-numbers-state
 unfolding go_line
-returns-then-next-states c = simp (sym c.record_of.ensures ∙ c.in-Numbers.is, eq-eqb _ _ c.if-s-state.false, eq-eqb _ _ c.if-a-action.false, lt-ltb _ _ c.if-next-states.true)
-
-pub returns-in-Not : goal.returns-in-Not
-unfolding go_line
-returns-in-Not c = rw (sym c.record_of.ensures ∙ c.in-Not.is)
-
-pub returns-else-next-states : goal.returns-else-next-states
-unfolding go_line
-returns-else-next-states c = simp (sym c.record_of.ensures ∙ c.in-Numbers.is, eq-eqb _ _ c.if-s-state.false, eq-eqb _ _ c.if-a-action.false, le-ltb _ _ c.if-next-states.false)
+returns-else-numbers-state c = elim c.else-numbers-state.branch [
+  | else-numbers-state-via-then-numbers-state+then-numbers-action+else-numbers-states w ↦ simp (sym c.record_of.ensures ∙ c.in_ok-numbers.was, eq-eqb _ _ w.if-numbers-state.true, eq-eqb _ _ w.if-numbers-action.true, le-ltb _ _ w.if-numbers-states.false)
+  | else-numbers-state-via-then-numbers-state+else-numbers-action w ↦ simp (sym c.record_of.ensures ∙ c.in_ok-numbers.was, eq-eqb _ _ w.if-numbers-state.true, ne_eqb _ _ w.if-numbers-action.false)
+  | else-numbers-state-via-else-numbers-state w ↦ simp (sym c.record_of.ensures ∙ c.in_ok-numbers.was, ne_eqb _ _ w.if-numbers-state.false)
+]

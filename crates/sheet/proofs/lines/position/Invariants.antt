@@ -1,12 +1,7 @@
--- `sheet::position` meets its contract: none of the ids passed is the one looked for. Assumes nothing.
-use Prim.Native.Nat.{◌-◌}
-use mathlib.Core.Path.{◌≡◌}
-use lib.ListN.{length}
+-- `sheet::lines::position` meets its contract: none of the ids passed is the one looked for. Assumes nothing.
+use Rattle.std.proofs.Common.{◌≡◌}
 use Rattle.text.specs.Lines.{before, end_of}
 use Rattle.sheet.proofs.lines.position.Given as goal
 
 abbrev pub invariant-loop-k : goal.invariant-loop-k
 invariant-loop-k l = end_of l.id l.ids l.k ≡ before l.id l.ids
-
-abbrev pub decreases-loop-k : goal.decreases-loop-k
-decreases-loop-k l = length l.ids - l.k

@@ -1,29 +1,26 @@
--- `sheet::sheet_line` meets its contract. Assumes nothing.
-use mathlib.Core.Path.{sym, ◌∙◌}
-use borrow.Author.Tests.{lt-ltb, le-ltb}
+-- `sheet::lines::sheet_line` meets its contract. Assumes nothing.
+use Rattle.std.proofs.Common.{sym, ◌∙◌, le-ltb, lt-ltb}
+use Rattle.std.proofs.lemmas.Result.{err_from_is_err_and}
 use Rattle.sheet.specs.Records.{sheet_line}
 use Rattle.sheet.proofs.lines.sheet_line.Goals as goal
+use Rattle.sheet.proofs.lines.sheet_line.Goals.{else-sized-via-then-sized+then-sized-2+else-sized-3, else-sized-via-then-sized+else-sized-2, else-sized-via-else-sized}
 
-pub returns-then-not-sized : goal.returns-then-not-sized
+pub returns-in_err-numbers : goal.returns-in_err-numbers
 unfolding sheet_line
-returns-then-not-sized c = rw (sym c.record_of.ensures ∙ c.in-Numbers.is, sym c.sized.ensures ∙ c.if-not-sized.true)
+returns-in_err-numbers c = let p = err_from_is_err_and c.from_residual.result c.from_residual.ensures.1 in rw (p.1, p.2) (rw (sym c.record_of.ensures ∙ c.in_err-numbers.was))
 
-pub returns-then-not-sized-2 : goal.returns-then-not-sized-2
+pub returns-then-numbers : goal.returns-then-numbers
 unfolding sheet_line
-returns-then-not-sized-2 c = rw (sym c.record_of.ensures ∙ c.in-Numbers.is, sym c.sized.ensures ∙ c.if-not-sized.false, sym c.sized-in-Numbers.ensures ∙ c.if-not-sized-2.true)
+returns-then-numbers c = rw (sym c.record_of.ensures ∙ c.in_ok-numbers.was, sym c.sized.ensures ∙ c.if-sized.true, sym c.sized-then-sized.ensures ∙ c.if-sized-2.true, sym c.sized-then-sized-2.ensures ∙ c.if-sized-3.true, lt-ltb _ _ c.if-numbers.true)
 
-pub returns-then-not-sized-3 : goal.returns-then-not-sized-3
+pub returns-else-numbers : goal.returns-else-numbers
 unfolding sheet_line
-returns-then-not-sized-3 c = rw (sym c.record_of.ensures ∙ c.in-Numbers.is, sym c.sized.ensures ∙ c.if-not-sized.false, sym c.sized-in-Numbers.ensures ∙ c.if-not-sized-2.false, sym c.sized-in-Numbers-2.ensures ∙ c.if-not-sized-3.true)
+returns-else-numbers c = rw (sym c.record_of.ensures ∙ c.in_ok-numbers.was, sym c.sized.ensures ∙ c.if-sized.true, sym c.sized-then-sized.ensures ∙ c.if-sized-2.true, sym c.sized-then-sized-2.ensures ∙ c.if-sized-3.true, le-ltb _ _ c.if-numbers.false)
 
-pub returns-then-start-states : goal.returns-then-start-states
+pub returns-else-sized : goal.returns-else-sized
 unfolding sheet_line
-returns-then-start-states c = rw (sym c.record_of.ensures ∙ c.in-Numbers.is, sym c.sized.ensures ∙ c.if-not-sized.false, sym c.sized-in-Numbers.ensures ∙ c.if-not-sized-2.false, sym c.sized-in-Numbers-2.ensures ∙ c.if-not-sized-3.false, lt-ltb _ _ c.if-start-states.true)
-
-pub returns-in-Not : goal.returns-in-Not
-unfolding sheet_line
-returns-in-Not c = rw (sym c.record_of.ensures ∙ c.in-Not.is)
-
-pub returns-else-start-states : goal.returns-else-start-states
-unfolding sheet_line
-returns-else-start-states c = rw (sym c.record_of.ensures ∙ c.in-Numbers.is, sym c.sized.ensures ∙ c.if-not-sized.false, sym c.sized-in-Numbers.ensures ∙ c.if-not-sized-2.false, sym c.sized-in-Numbers-2.ensures ∙ c.if-not-sized-3.false, le-ltb _ _ c.if-start-states.false)
+returns-else-sized c = elim c.else-sized.branch [
+  | else-sized-via-then-sized+then-sized-2+else-sized-3 w ↦ rw (sym c.record_of.ensures ∙ c.in_ok-numbers.was, sym c.sized.ensures ∙ w.if-sized.true, sym w.sized-then-sized.ensures ∙ w.if-sized-2.true, sym w.sized-then-sized-2.ensures ∙ w.if-sized-3.false)
+  | else-sized-via-then-sized+else-sized-2 w ↦ rw (sym c.record_of.ensures ∙ c.in_ok-numbers.was, sym c.sized.ensures ∙ w.if-sized.true, sym w.sized-then-sized.ensures ∙ w.if-sized-2.false)
+  | else-sized-via-else-sized w ↦ rw (sym c.record_of.ensures ∙ c.in_ok-numbers.was, sym c.sized.ensures ∙ w.if-sized.false)
+]

@@ -1,21 +1,21 @@
--- `sheet::view_line` meets its contract. Assumes nothing.
-use mathlib.Core.Path.{sym, ◌∙◌}
-use borrow.Author.Tests.{eq-eqb, ne_eqb}
+-- `sheet::lines::view_line` meets its contract. Assumes nothing.
+use Rattle.std.proofs.Common.{sym, ◌∙◌, eq-eqb, ne_eqb}
+use Rattle.std.proofs.lemmas.Result.{err_from_is_err_and}
 use Rattle.sheet.specs.Records.{view_line}
 use Rattle.sheet.proofs.lines.view_line.Goals as goal
 
-pub returns-then-i-id : goal.returns-then-i-id
+pub returns-in_err-numbers : goal.returns-in_err-numbers
 unfolding view_line
-returns-then-i-id c = simp (sym c.record_of.ensures ∙ c.in-Numbers.is, ne_eqb _ _ c.if-i-id.true)
+returns-in_err-numbers c = let p = err_from_is_err_and c.from_residual.result c.from_residual.ensures.1 in rw (p.1, p.2) (rw (sym c.record_of.ensures ∙ c.in_err-numbers.was))
 
-pub returns-then-s-state : goal.returns-then-s-state
+pub returns-then-numbers-id : goal.returns-then-numbers-id
 unfolding view_line
-returns-then-s-state c = simp (sym c.record_of.ensures ∙ c.in-Numbers.is, eq-eqb _ _ c.if-i-id.false, ne_eqb _ _ c.if-s-state.true)
+returns-then-numbers-id c = simp (sym c.record_of.ensures ∙ c.in_ok-numbers.was, ne_eqb _ _ c.if-numbers-id.true)
 
-pub returns-in-Not : goal.returns-in-Not
+pub returns-then-numbers-state : goal.returns-then-numbers-state
 unfolding view_line
-returns-in-Not c = rw (sym c.record_of.ensures ∙ c.in-Not.is)
+returns-then-numbers-state c = simp (sym c.record_of.ensures ∙ c.in_ok-numbers.was, eq-eqb _ _ c.if-numbers-id.false, ne_eqb _ _ c.if-numbers-state.true)
 
-pub returns-else-s-state : goal.returns-else-s-state
+pub returns-else-numbers-state : goal.returns-else-numbers-state
 unfolding view_line
-returns-else-s-state c = simp (sym c.record_of.ensures ∙ c.in-Numbers.is, eq-eqb _ _ c.if-i-id.false, eq-eqb _ _ c.if-s-state.false)
+returns-else-numbers-state c = simp (sym c.record_of.ensures ∙ c.in_ok-numbers.was, eq-eqb _ _ c.if-numbers-id.false, eq-eqb _ _ c.if-numbers-state.false)

@@ -1,26 +1,25 @@
--- `sheet::read_acts` meets its contract. Assumes nothing.
-use mathlib.Core.Path.{refl, sym, ◌∙◌}
-use native.Mathlib.Omega.{arith}
-use lib.ListN.{length-set}
-use Rattle.sheet.proofs.Going.{start, over, stopped, took, said, line_fits}
+-- `sheet::phases::read_acts` meets its contract. Assumes nothing.
+use Rattle.std.proofs.Common.{refl, sym, ◌∙◌, arith, length-set}
+use Rattle.std.proofs.lemmas.Result.{err_from_is_err_and}
+use Rattle.sheet.proofs.Going.{start, over, stopped, took, said}
 use Rattle.sheet.proofs.Good.{act_good}
-use Rattle.sheet.proofs.phases.read_acts.Invariants.{due, kept}
 use Rattle.sheet.proofs.phases.read_acts.Goals as goal
+use Rattle.sheet.proofs.phases.read_acts.Invariants.{due, kept}
 
 pub loop-k-init : goal.loop-k-init
-loop-k-init c = record { small = c.requires.2; few_ids = c.requires.3; room = refl; going = start (due _) kept _ _ _ _ _ c.requires.0 c.requires.1 }
+loop-k-init c = record { room = refl; going = start (due _) kept _ _ _ _ _ c.requires.ended c.args.first.few }
 
-pub returns-in-Stopped : goal.returns-in-Stopped
-returns-in-Stopped c = (stopped c.loop-k.invariant.going (omega arith) _ (sym c.take_due.ensures ∙ c.in-Stopped.is), tt)
+pub returns-in_err-taken : goal.returns-in_err-taken
+returns-in_err-taken c = let p = err_from_is_err_and c.from_residual.result c.from_residual.ensures.1 in rw (p.1, p.2) (stopped c.loop-k.invariant.going (omega arith) _ (sym c.take_due.ensures ∙ c.in_err-taken.was))
 
 pub overflow_cast-owners : goal.overflow_cast-owners
-overflow_cast-owners c = omega (arith, act_good c.args.ids.now _ (said c.loop-k.invariant.going (omega arith) (sym c.take_due.ensures ∙ c.in-Took.is)))
+overflow_cast-owners c = omega (arith, act_good c.args.ids.now _ (said c.loop-k.invariant.going (omega arith) (sym c.take_due.ensures ∙ c.in_ok-taken.was)), c.requires.few_ids)
 
-pub overflow_add-line : goal.overflow_add-line
-overflow_add-line c = omega (arith, line_fits c.loop-k.invariant.going (omega arith) (sym c.take_due.ensures ∙ c.in-Took.is))
+pub invariant_of-cursor : goal.invariant_of-cursor
+invariant_of-cursor c = record { few = c.loop-k.invariant.going.few }
 
 pub loop-k-preserved : goal.loop-k-preserved
-loop-k-preserved c = record { small = c.loop-k.invariant.small; few_ids = c.loop-k.invariant.few_ids; room = simp length-set c.loop-k.invariant.room; going = took c.loop-k.invariant.going (omega arith) (sym c.take_due.ensures ∙ c.in-Took.is) }
+loop-k-preserved c = record { room = simp length-set c.loop-k.invariant.room; going = took c.loop-k.invariant.going (omega arith) (sym c.take_due.ensures ∙ c.in_ok-taken.was) }
 
 pub returns : goal.returns
-returns c = (over c.loop-k.invariant.going (omega arith), c.loop-k.invariant.going.few)
+returns c = over c.loop-k.invariant.going (omega arith)

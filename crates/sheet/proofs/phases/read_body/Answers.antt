@@ -1,37 +1,34 @@
 -- `sheet::phases::read_body` meets its contract. Assumes nothing.
-use Prim.Native.Nat.{◌-◌}
-use native.Mathlib.Omega.{arith}
 use native.Mathlib.Nat.{sub-zero}
-use lib.Seq.{length-take-le}
-use Rattle.sheet.specs.Reading.{parts, parts_as}
-use Rattle.sheet.proofs.Chain.{few_done, chain_last}
+use Rattle.std.proofs.lemmas.Result.{err_from_is_err_and}
+use Rattle.text.proofs.Parts.{line_next, no_lines}
+use Rattle.sheet.specs.Reading.{parts, drawing}
 use Rattle.sheet.proofs.phases.read_body.Goals as goal
 
-pub returns-in_default : goal.returns-in_default
-unfolding parts
-returns-in_default c = rw (← c.read_boxes-named.ensures.0, c.in_default.is)
+pub returns-in_err-boxes : goal.returns-in_err-boxes
+unfolding parts drawing
+returns-in_err-boxes c = let p = err_from_is_err_and c.from_residual.result c.from_residual.ensures.1 in rw (p.1, p.2, ← c.read_boxes.ensures, c.in_err-boxes.was)
 
-pub slice_bounds-read_acts-end : goal.slice_bounds-read_acts-end
-slice_bounds-read_acts-end c = omega (arith, c.read_boxes-named.ensures.2, c.requires.ended.6)
+pub returns-in_err-acts : goal.returns-in_err-acts
+unfolding parts drawing
+returns-in_err-acts c = let p = err_from_is_err_and c.from_residual-in_err-acts.result c.from_residual-in_err-acts.ensures.1 in rw (p.1, p.2, ← c.read_boxes.ensures, c.in_ok-boxes.was, ← sub-zero c.args.sizes.boxes, ← c.read_acts.ensures, c.in_err-acts.was)
 
-pub read_acts-owned-requires : goal.read_acts-owned-requires
-read_acts-owned-requires c = (
-  c.requires.ended.0,
-  few_done _ c.in-Done.is c.read_boxes-named.ensures.1,
-  c.requires.ended.5,
-  omega (arith, length-take-le (c.args.boxes - 0) c.read_boxes-named.result.ids (omega (arith, c.read_boxes-named.ensures.2, c.requires.ended.6)), c.requires.ended.6),
-)
+pub returns-in_err-gone : goal.returns-in_err-gone
+unfolding parts drawing
+returns-in_err-gone c = let p = err_from_is_err_and c.from_residual-in_err-gone.result c.from_residual-in_err-gone.ensures.1 in rw (p.1, p.2, ← c.read_boxes.ensures, c.in_ok-boxes.was, ← sub-zero c.args.sizes.boxes, ← c.read_acts.ensures, c.in_ok-acts.was, ← c.read_goes.ensures, c.in_err-gone.was)
 
-pub returns-in_default-acted : goal.returns-in_default-acted
-unfolding parts
-returns-in_default-acted c = rw (← c.read_boxes-named.ensures.0, c.in-Done.is, ← sub-zero c.args.boxes, ← c.read_acts-owned.ensures.0, c.in_default-acted.is)
+pub returns-in_err-flows : goal.returns-in_err-flows
+unfolding parts drawing
+returns-in_err-flows c = let p = err_from_is_err_and c.from_residual-in_err-flows.result c.from_residual-in_err-flows.ensures.1 in rw (p.1, p.2, ← c.read_boxes.ensures, c.in_ok-boxes.was, ← sub-zero c.args.sizes.boxes, ← c.read_acts.ensures, c.in_ok-acts.was, ← c.read_goes.ensures, c.in_ok-gone.was, ← c.read_flows.ensures, c.in_err-flows.was)
 
-pub slice_bounds-read_drawing-end : goal.slice_bounds-read_drawing-end
-slice_bounds-read_drawing-end c = omega (arith, c.read_boxes-named.ensures.2, c.requires.ended.6)
+pub returns-in_err-last : goal.returns-in_err-last
+unfolding parts drawing
+returns-in_err-last c = let p = err_from_is_err_and c.from_residual-in_err-last.result c.from_residual-in_err-last.ensures.1 in rw (p.1, p.2, ← c.read_boxes.ensures, c.in_ok-boxes.was, ← sub-zero c.args.sizes.boxes, ← c.read_acts.ensures, c.in_ok-acts.was, ← c.read_goes.ensures, c.in_ok-gone.was, ← c.read_flows.ensures, c.in_ok-flows.was, ← c.read_views.ensures, c.in_err-last.was)
 
-pub read_drawing-drawn-requires : goal.read_drawing-drawn-requires
-read_drawing-drawn-requires c = record { ended = (c.requires.ended.0, few_done _ c.in-Done-acted.is c.read_acts-owned.ensures.1, c.requires.ended.2, c.requires.ended.3, c.requires.ended.4, c.requires.ended.5); ids_len_bound = (omega (arith, length-take-le (c.args.boxes - 0) c.read_boxes-named.result.ids (omega (arith, c.read_boxes-named.ensures.2, c.requires.ended.6)), c.requires.ended.6), c.requires.next_len.0, c.requires.next_len.1, c.requires.next_len.2) }
+pub returns-then-last-text : goal.returns-then-last-text
+unfolding parts drawing
+returns-then-last-text c = rw (← c.read_boxes.ensures, c.in_ok-boxes.was, ← sub-zero c.args.sizes.boxes, ← c.read_acts.ensures, c.in_ok-acts.was, ← c.read_goes.ensures, c.in_ok-gone.was, ← c.read_flows.ensures, c.in_ok-flows.was, ← c.read_views.ensures, c.in_ok-last.was, line_next c.requires.ended _ c.if-last-text.true)
 
-pub returns : goal.returns
-unfolding parts
-returns c = rw (← c.read_boxes-named.ensures.0, c.in-Done.is, ← sub-zero c.args.boxes, ← c.read_acts-owned.ensures.0, c.in-Done-acted.is, ← c.read_drawing-drawn.ensures.0) (chain_last c.read_drawing-drawn.result.phase _ _ (parts_as _ _))
+pub returns-else-last-text : goal.returns-else-last-text
+unfolding parts drawing
+returns-else-last-text c = rw (c.new-else-last-text.ensures, c.new.ensures, ← c.read_boxes.ensures, c.in_ok-boxes.was, ← sub-zero c.args.sizes.boxes, ← c.read_acts.ensures, c.in_ok-acts.was, ← c.read_goes.ensures, c.in_ok-gone.was, ← c.read_flows.ensures, c.in_ok-flows.was, ← c.read_views.ensures, c.in_ok-last.was, no_lines c.args.text.now _ c.if-last-text.false)

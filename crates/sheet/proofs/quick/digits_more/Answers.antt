@@ -15,7 +15,7 @@ returns-in_default c = c.loop-v.invariant.back c.digits_end.result (c.digits_end
 
 pub loop-v-preserved : goal.loop-v-preserved
 loop-v-preserved c =
-    let g = sym c.grown.ensures ∙ c.in-Good.is in
+    let g = sym c.grown.ensures ∙ c.in-Some.is in
     let l = c.loop-v.invariant in
     record {
       closed = l.closed;

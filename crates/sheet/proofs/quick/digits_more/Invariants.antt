@@ -1,4 +1,5 @@
 -- `sheet::quick::digits_more` meets its contract: what is read from `i` on, after the digits passed, is what is read from `at` on. Assumes nothing.
+use Rattle.std.specs.Prelude.{Option}
 use Prim.Native.Nat.{ℕ, ◌-◌, ◌<◌}
 use mathlib.Core.List.{List}
 use lib.ListN.{length}
@@ -11,7 +12,7 @@ pub record Left (limit : ℕ) (t : List ℕ) (stop at first i value : ℕ) : Typ
   pub closed : Ended t
   pub within : i < length t
   pub some : 0 < value
-  pub back : (r : Digits) → MoreRead limit t stop i value r → MoreRead limit t stop at first r
+  pub back : (r : Option Digits) → MoreRead limit t stop i value r → MoreRead limit t stop at first r
 
 abbrev pub invariant-loop-v : goal.invariant-loop-v
 invariant-loop-v l = Left l.limit l.text l.stop l.at l.first l.i l.value

@@ -1,49 +1,35 @@
 -- `zarpalume::lines::put_views` meets its contract. Assumes nothing.
+use mathlib.Core.Path.{◌≡◌, ◌∙◌}
+use borrow.Author.Rules.{rules}
 use native.Mathlib.Omega.{arith}
-use Rattle.zarpalume.proofs.ViewsLine.{line_accepted, line_output, line_respect, line_step, line_refused, small_as}
+use Rattle.std.specs.Prelude.{Err}
+use Rattle.views.specs.declared.Fault.TheVariants.{Output, Respect, Step, Refused}
+use Rattle.zarpalume.proofs.ViewsLine.{line_accepted, line_output, line_respect, line_step, line_refused}
 use Rattle.zarpalume.proofs.lines.put_views.Goals as goal
 
-pub overflow_cast-action : goal.overflow_cast-action
-overflow_cast-action c = let h = small_as c.requires.0 c.in-Output.is in let l = h.0 in omega arith
+pub returns-in-Ok : goal.returns-in-Ok
+returns-in-Ok c = (line_accepted c.args.model.now.ids c.args.model.now.machine.owners _ c.in-Ok.is c.put_words.ensures.0, omega arith)
 
-pub overflow_cast-s : goal.overflow_cast-s
-overflow_cast-s c = let h = small_as c.requires.0 c.in-Output.is in let l = h.1 in omega arith
+pub returns-in-Err-Output : goal.returns-in-Err-Output
+returns-in-Err-Output c =
+    let i = c.in-Err-Output in
+    let e : c.args.judged ≡ Err (Output i.action i.s i.t) = search rules in
+    (line_output _ _ _ e c.owner.ensures c.id-id.ensures c.put_places.ensures.0, omega arith)
 
-pub overflow_cast-t : goal.overflow_cast-t
-overflow_cast-t c = let h = small_as c.requires.0 c.in-Output.is in let l = h.2 in omega arith
+pub returns-in-Err-Respect : goal.returns-in-Err-Respect
+returns-in-Err-Respect c =
+    let i = c.in-Err-Respect in
+    let e : c.args.judged ≡ Err (Respect i.position i.action i.s) = search rules in
+    (line_respect _ _ _ e c.id.ensures c.put_respect.ensures.0, omega arith)
 
-pub overflow_cast-action-in-Respect : goal.overflow_cast-action-in-Respect
-overflow_cast-action-in-Respect c = let h = small_as c.requires.0 c.in-Respect.is in let l = h.0 in omega arith
+pub returns-in-Err-Step : goal.returns-in-Err-Step
+returns-in-Err-Step c =
+    let i = c.in-Err-Step in
+    let e : c.args.judged ≡ Err (Step i.position i.action i.s i.t) = search rules in
+    (line_step _ _ _ e c.id-id-in-Err-Step.ensures c.put_places-in-Err-Step.ensures.0, omega arith)
 
-pub overflow_cast-s-in-Respect : goal.overflow_cast-s-in-Respect
-overflow_cast-s-in-Respect c = let h = small_as c.requires.0 c.in-Respect.is in let l = h.1 in omega arith
-
-pub overflow_cast-action-in-Step : goal.overflow_cast-action-in-Step
-overflow_cast-action-in-Step c = let h = small_as c.requires.0 c.in-Step.is in let l = h.0 in omega arith
-
-pub overflow_cast-s-in-Step : goal.overflow_cast-s-in-Step
-overflow_cast-s-in-Step c = let h = small_as c.requires.0 c.in-Step.is in let l = h.1 in omega arith
-
-pub overflow_cast-t-in-Step : goal.overflow_cast-t-in-Step
-overflow_cast-t-in-Step c = let h = small_as c.requires.0 c.in-Step.is in let l = h.2 in omega arith
-
-pub overflow_cast-number : goal.overflow_cast-number
-overflow_cast-number c = let h = small_as c.requires.0 c.in-Refused.is in let l = h.0 in omega arith
-
-pub overflow_cast-line : goal.overflow_cast-line
-overflow_cast-line c = let h = small_as c.requires.0 c.in-Refused.is in let l = h.1 in omega arith
-
-pub returns-in-Accepted : goal.returns-in-Accepted
-returns-in-Accepted c = (line_accepted c.args.ids.now c.args.owners.now c.args.judgement c.in-Accepted.is c.put_words.ensures.0, omega arith)
-
-pub returns-in-Output : goal.returns-in-Output
-returns-in-Output c = (line_output _ _ _ c.in-Output.is c.owner.ensures c.id-id.ensures c.put_places.ensures.0, omega arith)
-
-pub returns-in-Respect : goal.returns-in-Respect
-returns-in-Respect c = (line_respect _ _ _ c.in-Respect.is c.id.ensures c.put_respect.ensures.0, omega arith)
-
-pub returns-in-Step : goal.returns-in-Step
-returns-in-Step c = (line_step _ _ _ c.in-Step.is c.id-id-in-Step.ensures c.put_places-in-Step.ensures.0, omega arith)
-
-pub returns-in-Refused : goal.returns-in-Refused
-returns-in-Refused c = (line_refused c.args.ids.now c.args.owners.now c.args.judgement c.in-Refused.is c.put_pair.ensures.0, omega arith)
+pub returns-in-Err-Refused : goal.returns-in-Err-Refused
+returns-in-Err-Refused c =
+    let i = c.in-Err-Refused in
+    let e : c.args.judged ≡ Err (Refused i.refused) = search rules in
+    (line_refused c.args.model.now.ids c.args.model.now.machine.owners _ e (c.from-number.ensures ∙ c.number.ensures) c.put_pair.ensures.0, omega arith)

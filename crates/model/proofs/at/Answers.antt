@@ -1,7 +1,0 @@
--- `model::at` meets its contract. Assumes nothing.
-use borrow.Author.Rules.{rules}
-use Rattle.laws.proofs.Cells.{beyond}
-use Rattle.model.proofs.at.Goals as goal
-
-pub returns : goal.returns
-returns c = search (beyond, rules)
