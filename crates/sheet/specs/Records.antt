@@ -23,6 +23,9 @@ position ids id = before id ids
 abbrev pub known : List ℕ → ℕ → Bool
 known ids id = ltb (position ids id) (length ids)
 
+abbrev pub placed : List ℕ → ℕ → Option ℕ
+placed ids id = cond (known ids id) (Some (position ids id)) None
+
 -- every byte is 0x20 to 0x7E
 unfoldable pub plain : List ℕ → Bool
 plain [] = true

@@ -9,12 +9,13 @@ mod quick;
 
 ghost use Rattle.std.specs.Prelude.{◌≡◌, length};
 ghost use Rattle.model.specs.Limits.{NEXT_ENTRIES, OUTPUT_ENTRIES, VIEW_ENTRIES};
-ghost use Rattle.text.specs.Lines.{lines, Ended};
+ghost use Rattle.text.specs.Lines.{lines};
 ghost use Rattle.sheet.specs.Phases.{steps};
 ghost use Rattle.sheet.specs.Reading.{zeros, reading_of, sheet_lines, sheet_text, outcome, read};
 ghost use Rattle.sheet.specs.Label.{label, Handed};
 
 pub use cursor::Cursor;
+use cursor::{Ids, Sheet};
 use model::{Model, Refusal, Refused, Sizes};
 
 // The numbers of a record, 0 beyond its count.
@@ -87,19 +88,18 @@ pub struct Place {
 
 // The lines of a text that ends in LF.
 fn read_lines(
-    text: &[u8],
+    sheet: Sheet<'_>,
     next: &mut [u16],
     outputs: &mut [u16],
     views: &mut [u16],
 ) -> Result<Model, Refused>
-    requires ended { Ended text.now }
     requires lengths { (length next.old ≡ NEXT_ENTRIES) × (length outputs.old ≡ OUTPUT_ENTRIES) × (length views.old ≡ VIEW_ENTRIES) }
-    ensures { reading_of result (steps next.new outputs.new) views.new ≡ sheet_lines (steps next.old outputs.old) views.old (lines text.now) }
+    ensures { reading_of result (steps next.new outputs.new) views.new ≡ sheet_lines (steps next.old outputs.old) views.old (lines sheet.entry.text.now) }
 {
     let first = Cursor { at: 0, line: 1 };
     // no id is known yet
     let none = [0u32; 1];
-    let taken = phases::take_due(text, first, Due::Sheet, &none[0..0])?;
+    let taken = phases::take_due(sheet, first, Due::Sheet, Ids { ids: &none[0..0] })?;
     let numbers = taken.numbers;
     let sizes = Sizes::new(
         numbers.first as usize,
@@ -111,7 +111,7 @@ fn read_lines(
         at: taken.next,
         line: 2,
     };
-    phases::read_body(text, second, sizes, next, outputs, views)
+    phases::read_body(sheet, second, sizes, next, outputs, views)
 }
 
 // A text over tables that are zero.
@@ -126,7 +126,7 @@ fn read_text(
 {
     let n = text.len();
     if 0 < n && n <= model::SHEET_BYTES && text[n - 1] == b'\n' {
-        read_lines(text, next, outputs, views)
+        read_lines(Sheet { text }, next, outputs, views)
     } else {
         Err(Refused {
             refusal: Refusal::Text,

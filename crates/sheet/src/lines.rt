@@ -1,11 +1,10 @@
 // The lines of a sheet, each by itself.
 ghost use Rattle.std.specs.Prelude.{◌≡◌, ◌≤◌, length};
-ghost use Rattle.model.specs.Limits.{BOXES};
 ghost use Rattle.text.specs.Lines.{fields_at};
 ghost use Rattle.sheet.specs.Numbers.{record_of, numbers};
-ghost use Rattle.sheet.specs.Records.{sized, position, label_good, plain, sheet_line, box_line, act_line, go_line, arrow_line, view_line, box_of, box_fields, flow_line, line_due};
+ghost use Rattle.sheet.specs.Records.{sized, label_good, plain, sheet_line, box_line, act_line, go_line, arrow_line, view_line, box_of, box_fields, flow_line, line_due};
 
-use super::{Arrows, Due, Numbers};
+use super::{Arrows, Due, Ids, Numbers};
 use model::Refusal;
 
 // The numbers in the fields from `from` on: as many as there are limits, each up to its own.
@@ -69,18 +68,6 @@ fn record_of(line: &[u8], word: &[u8], limits: &[u32]) -> Result<Numbers, Refusa
     }
 }
 
-// The position of an id among those given; their count where it is none of them.
-pub(crate) fn position(ids: &[u32], id: u32) -> usize
-    ensures { result ≡ position ids.now id }
-{
-    for (k, known) in ids.iter().enumerate() {
-        if *known == id {
-            return k;
-        }
-    }
-    ids.len()
-}
-
 // Is a size 1 to its limit.
 fn sized(most: usize, n: u32) -> bool
     ensures { result ≡ sized most n }
@@ -122,11 +109,11 @@ fn sheet_line(line: &[u8]) -> Result<Numbers, Refusal>
 }
 
 // The id and the label of a box, after boxes with the ids given.
-fn box_of(number: Option<u32>, label: &[u8], ids: &[u32]) -> Result<Numbers, Refusal>
-    ensures { result ≡ box_of ids.now number label.now }
+fn box_of(number: Option<u32>, label: &[u8], ids: Ids<'_>) -> Result<Numbers, Refusal>
+    ensures { result ≡ box_of ids.entry.ids.now number label.now }
 {
     let id = number.ok_or(Refusal::Number)?;
-    if position(ids, id) < ids.len() {
+    if ids.position(id).is_some() {
         Err(Refusal::SameId)
     } else if label_good(label) {
         Ok(one(id))
@@ -136,8 +123,8 @@ fn box_of(number: Option<u32>, label: &[u8], ids: &[u32]) -> Result<Numbers, Ref
 }
 
 // The two fields of a box from `from` on.
-fn box_from(line: &[u8], from: usize, ids: &[u32]) -> Result<Numbers, Refusal>
-    ensures { result ≡ box_fields ids.now (fields_at line.now from) }
+fn box_from(line: &[u8], from: usize, ids: Ids<'_>) -> Result<Numbers, Refusal>
+    ensures { result ≡ box_fields ids.entry.ids.now (fields_at line.now from) }
 {
     if line.len() < from {
         return Err(Refusal::Fields);
@@ -156,8 +143,8 @@ fn box_from(line: &[u8], from: usize, ids: &[u32]) -> Result<Numbers, Refusal>
     box_of(number, &line[start..], ids)
 }
 
-fn box_line(line: &[u8], ids: &[u32]) -> Result<Numbers, Refusal>
-    ensures { result ≡ box_line ids.now line.now }
+fn box_line(line: &[u8], ids: Ids<'_>) -> Result<Numbers, Refusal>
+    ensures { result ≡ box_line ids.entry.ids.now line.now }
 {
     if text::starts(line, b"box") {
         box_from(line, 4, ids)
@@ -166,17 +153,12 @@ fn box_line(line: &[u8], ids: &[u32]) -> Result<Numbers, Refusal>
     }
 }
 
-fn act_line(line: &[u8], ids: &[u32]) -> Result<Numbers, Refusal>
-    requires { length ids.now ≤ BOXES }
-    ensures { result ≡ act_line ids.now line.now }
+fn act_line(line: &[u8], ids: Ids<'_>) -> Result<Numbers, Refusal>
+    ensures { result ≡ act_line ids.entry.ids.now line.now }
 {
     let numbers = record_of(line, b"act", &[model::LARGEST_ID])?;
-    let p = position(ids, numbers.first);
-    if p < ids.len() {
-        Ok(one(p as u32))
-    } else {
-        Err(Refusal::UnknownId)
-    }
+    let p = ids.position(numbers.first).ok_or(Refusal::UnknownId)?;
+    Ok(one(p as u32))
 }
 
 fn go_line(line: &[u8], states: u32, state: u32, action: u32) -> Result<Numbers, Refusal>
@@ -191,30 +173,24 @@ fn go_line(line: &[u8], states: u32, state: u32, action: u32) -> Result<Numbers,
     }
 }
 
-fn arrow_line(line: &[u8], word: &[u8], ids: &[u32]) -> Result<Numbers, Refusal>
-    requires { length ids.now ≤ BOXES }
-    ensures { result ≡ arrow_line word.now ids.now line.now }
+fn arrow_line(line: &[u8], word: &[u8], ids: Ids<'_>) -> Result<Numbers, Refusal>
+    ensures { result ≡ arrow_line word.now ids.entry.ids.now line.now }
 {
     let limits = [model::LARGEST_ID, model::LARGEST_ID];
     let numbers = record_of(line, word, &limits)?;
-    let v = position(ids, numbers.first);
-    let u = position(ids, numbers.second);
-    if v < ids.len() && u < ids.len() {
-        Ok(Numbers {
-            first: v as u32,
-            second: u as u32,
-            third: 0,
-            fourth: 0,
-        })
-    } else {
-        Err(Refusal::UnknownId)
-    }
+    let v = ids.position(numbers.first).ok_or(Refusal::UnknownId)?;
+    let u = ids.position(numbers.second).ok_or(Refusal::UnknownId)?;
+    Ok(Numbers {
+        first: v as u32,
+        second: u as u32,
+        third: 0,
+        fourth: 0,
+    })
 }
 
 // A `flow` or a `both` line; none where it is another line.
-pub(crate) fn flow_line(line: &[u8], ids: &[u32]) -> Result<Option<Arrows>, Refusal>
-    requires { length ids.now ≤ BOXES }
-    ensures { result ≡ flow_line ids.now line.now }
+pub(crate) fn flow_line(line: &[u8], ids: Ids<'_>) -> Result<Option<Arrows>, Refusal>
+    ensures { result ≡ flow_line ids.entry.ids.now line.now }
 {
     if text::starts(line, b"flow") {
         let numbers = arrow_line(line, b"flow", ids)?;
@@ -245,9 +221,8 @@ fn view_line(line: &[u8], id: u32, state: u32) -> Result<Numbers, Refusal>
 }
 
 // The line, if it is the one that is due, after boxes with the ids given.
-pub(crate) fn line_due(line: &[u8], due: Due, ids: &[u32]) -> Result<Numbers, Refusal>
-    requires { length ids.now ≤ BOXES }
-    ensures { result ≡ line_due due ids.now line.now }
+pub(crate) fn line_due(line: &[u8], due: Due, ids: Ids<'_>) -> Result<Numbers, Refusal>
+    ensures { result ≡ line_due due ids.entry.ids.now line.now }
 {
     match due {
         Due::Sheet => sheet_line(line),

@@ -5,10 +5,10 @@ use Rattle.sheet.proofs.First.{first_sizes, first_bad, first_good}
 use Rattle.sheet.proofs.read_lines.Goals as goal
 
 pub returns-in_err-taken : goal.returns-in_err-taken
-returns-in_err-taken c = let p = err_from_is_err_and c.from_residual.result c.from_residual.ensures.1 in rw (p.1, p.2) (first_bad c.requires.ended _ _ _ (sym c.take_due.ensures ∙ c.in_err-taken.was))
+returns-in_err-taken c = let p = err_from_is_err_and c.from_residual.result c.from_residual.ensures.1 in rw (p.1, p.2) (first_bad c.args.sheet.ended _ _ _ (sym c.take_due.ensures ∙ c.in_err-taken.was))
 
 pub read_body-requires-clause-sizes : goal.read_body-requires-clause-sizes
-read_body-requires-clause-sizes c = rw c.new-sizes.ensures (first_sizes c.args.text.now (sym c.take_due.ensures ∙ c.in_ok-taken.was))
+read_body-requires-clause-sizes c = rw c.new-sizes.ensures (first_sizes c.args.sheet.text.now (sym c.take_due.ensures ∙ c.in_ok-taken.was))
 
 pub returns : goal.returns
-returns c = c.read_body.ensures ∙ (rw c.new-sizes.ensures (first_good c.requires.ended _ _ (sym c.take_due.ensures ∙ c.in_ok-taken.was) refl))
+returns c = c.read_body.ensures ∙ (rw c.new-sizes.ensures (first_good c.args.sheet.ended _ _ (sym c.take_due.ensures ∙ c.in_ok-taken.was) refl))

@@ -7,13 +7,13 @@ use Rattle.sheet.proofs.phases.read_acts.Goals as goal
 use Rattle.sheet.proofs.phases.read_acts.Invariants.{due, kept}
 
 pub loop-k-init : goal.loop-k-init
-loop-k-init c = record { room = refl; going = start (due _) kept _ _ _ _ _ c.requires.ended c.args.first.few }
+loop-k-init c = record { room = refl; going = start (due _) kept _ _ _ _ _ c.args.sheet.ended c.args.first.few }
 
 pub returns-in_err-taken : goal.returns-in_err-taken
 returns-in_err-taken c = let p = err_from_is_err_and c.from_residual.result c.from_residual.ensures.1 in rw (p.1, p.2) (stopped c.loop-k.invariant.going (omega arith) _ (sym c.take_due.ensures ∙ c.in_err-taken.was))
 
 pub overflow_cast-owners : goal.overflow_cast-owners
-overflow_cast-owners c = omega (arith, act_good c.args.ids.now _ (said c.loop-k.invariant.going (omega arith) (sym c.take_due.ensures ∙ c.in_ok-taken.was)), c.requires.few_ids)
+overflow_cast-owners c = omega (arith, act_good c.args.ids.ids.now _ (said c.loop-k.invariant.going (omega arith) (sym c.take_due.ensures ∙ c.in_ok-taken.was)), c.args.ids.few)
 
 pub invariant_of-cursor : goal.invariant_of-cursor
 invariant_of-cursor c = record { few = c.loop-k.invariant.going.few }

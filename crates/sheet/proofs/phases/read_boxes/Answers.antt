@@ -8,7 +8,7 @@ use Rattle.sheet.proofs.phases.read_boxes.Goals as goal
 use Rattle.sheet.proofs.phases.read_boxes.Invariants.{due, kept}
 
 pub loop-k-init : goal.loop-k-init
-loop-k-init c = record { room = refl; going = start due kept _ _ _ _ _ c.requires.ended c.args.first.few }
+loop-k-init c = record { room = refl; going = start due kept _ _ _ _ _ c.args.sheet.ended c.args.first.few }
 
 pub take_due-requires : goal.take_due-requires
 take_due-requires c = omega (arith, length-take-le (c.loop-k.k - 0) c.loop-k.ids (omega arith))

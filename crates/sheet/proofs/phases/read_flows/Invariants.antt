@@ -12,7 +12,7 @@ pub record At (t : List ℕ) (from first : ℕ) (ids arrows : List ℕ) (at n : 
   pub flowing : Flowing t ids (flows ids (selves (length ids) (replicate BOXES 0)) (lines (drop from t)) first) arrows at n
 
 abbrev pub invariant-loop-cursor : goal.invariant-loop-cursor
-invariant-loop-cursor l = At l.text l.fn.first.at l.fn.first.line l.ids l.arrows l.cursor.0 l.cursor.1.0
+invariant-loop-cursor l = At l.sheet.text.now l.fn.first.at l.fn.first.line l.ids.ids.now l.arrows l.cursor.0 l.cursor.1.0
 
 abbrev pub decreases-loop-cursor : goal.decreases-loop-cursor
-decreases-loop-cursor l = length l.text - l.cursor.0
+decreases-loop-cursor l = length l.sheet.text.now - l.cursor.0

@@ -8,10 +8,10 @@ use Rattle.sheet.proofs.phases.read_views.Goals as goal
 use Rattle.sheet.proofs.phases.read_views.Invariants.{due, kept}
 
 pub overflow_mul-total : goal.overflow_mul-total
-overflow_mul-total c = omega (arith, mul-le-mul c.requires.few_ids c.requires.states.1)
+overflow_mul-total c = omega (arith, mul-le-mul c.args.ids.few c.requires.states.1)
 
 pub loop-k-init : goal.loop-k-init
-loop-k-init c = record { same_length = refl; going = start (due c.args.ids.now _) kept _ _ _ _ _ c.requires.ended c.args.first.few }
+loop-k-init c = record { same_length = refl; going = start (due c.args.ids.ids.now _) kept _ _ _ _ _ c.args.sheet.ended c.args.first.few }
 
 pub returns-in_err-taken : goal.returns-in_err-taken
 returns-in_err-taken c = let p = err_from_is_err_and c.from_residual.result c.from_residual.ensures.1 in rw (p.1, p.2) (stopped c.loop-k.invariant.going (omega arith) _ (sym c.take_view.ensures ∙ c.in_err-taken.was))
