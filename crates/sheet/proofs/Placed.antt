@@ -5,6 +5,8 @@ use Rattle.std.specs.Option.{ok_or}
 use Rattle.std.proofs.lemmas.List.Recursion.{is_position_or_len}
 use borrow.Author.Tests.{ltb-true}
 use Rattle.text.specs.Lines.{before}
+use Rattle.model.specs.declared.refusal.Refusal.{Refusal}
+use Rattle.sheet.specs.Numbers.{said, as_first}
 use Rattle.sheet.specs.Records.{position, known, placed}
 
 -- what the library's search finds
@@ -44,3 +46,11 @@ module _ (ids : List ℕ) (id : ℕ) where
         go : (o : Option ℕ) → o ≡ placed ids id → ok_or o e ≡ Err x → (known ids id ≡ false) × (x ≡ e)
         go (Some k) p h = let z : ◌≡◌ {A = ℕ} 0 1 = cc in absurd (omega arith)
         go None p h = (placed_none (sym p), sym cc)
+
+  -- the position is all that is kept of a record
+  pub known_first : {o : Option ℕ} → o ≡ placed ids id → {r : Result ℕ Refusal} (e : Refusal) → r ≡ ok_or o e → r ≡ as_first (cond (known ids id) (said (position ids id) 0 0 0) (Err e))
+  known_first {o} p {r} e q = q ∙ rw p (go (known ids id))
+    where
+      go : (b : Bool) → ok_or (cond b (Some (position ids id)) None) e ≡ as_first (cond b (said (position ids id) 0 0 0) (Err e))
+      go true = refl
+      go false = refl

@@ -16,7 +16,7 @@ ghost use Rattle.sheet.specs.Label.{label, Handed};
 
 pub use cursor::Cursor;
 use cursor::{Ids, Sheet};
-use model::{Model, Refusal, Refused, Sizes};
+use model::{Model, Refusal, Refused};
 
 // The numbers of a record, 0 beyond its count.
 #[derive(Clone, Copy)]
@@ -27,41 +27,17 @@ pub struct Numbers {
     pub fourth: u32,
 }
 
-// The line that is due.
-#[derive(Clone, Copy)]
-pub enum Due {
-    Sheet,
-    Box,
-    Act,
-    Go {
-        states: u32,
-        state: u32,
-        action: u32,
-    },
-    View {
-        id: u32,
-        state: u32,
-    },
-}
-
 // What a line of arrows says: one, or two.
 #[derive(Clone, Copy)]
 pub enum Arrows {
-    One(u32, u32),
-    Two(u32, u32),
+    One(usize, usize),
+    Two(usize, usize),
 }
 
-// A record, with the place after its line.
+// What a line says, with the place after it.
 #[derive(Clone, Copy)]
-pub struct Taken {
-    pub numbers: Numbers,
-    pub next: usize,
-}
-
-// The arrows of a line, with the place after it.
-#[derive(Clone, Copy)]
-pub struct Drawn {
-    pub arrows: Arrows,
+pub struct Taken<T> {
+    pub read: T,
     pub next: usize,
 }
 
@@ -97,21 +73,12 @@ fn read_lines(
     ensures { reading_of result (steps next.new outputs.new) views.new ≡ sheet_lines (steps next.old outputs.old) views.old (lines sheet.entry.text.now) }
 {
     let first = Cursor { at: 0, line: 1 };
-    // no id is known yet
-    let none = [0u32; 1];
-    let taken = phases::take_due(sheet, first, Due::Sheet, Ids { ids: &none[0..0] })?;
-    let numbers = taken.numbers;
-    let sizes = Sizes::new(
-        numbers.first as usize,
-        numbers.second as usize,
-        numbers.third as usize,
-        numbers.fourth as usize,
-    );
+    let taken = phases::take(sheet, first, lines::sheet_line)?;
     let second = Cursor {
         at: taken.next,
         line: 2,
     };
-    phases::read_body(sheet, second, sizes, next, outputs, views)
+    phases::read_body(sheet, second, taken.read, next, outputs, views)
 }
 
 // A text over tables that are zero.

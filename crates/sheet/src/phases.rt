@@ -1,24 +1,24 @@
 // Runs of lines of one kind.
 ghost use Rattle.std.specs.Prelude.{◌≡◌, ◌+◌, ◌<◌, ◌≤◌, length, drop, replicate};
+ghost use Rattle.std.specs.Fn.{FnOnceReturnsAt};
 ghost use Rattle.model.specs.Limits.{STATES, ACTIONS, BOXES, NEXT_ENTRIES, OUTPUT_ENTRIES, VIEW_ENTRIES};
 ghost use Rattle.model.specs.Arrows.{drawn, selves};
 ghost use Rattle.model.specs.Good.{GoodSizes};
 ghost use Rattle.text.specs.Lines.{lines};
-ghost use Rattle.sheet.specs.Records.{line_due};
-ghost use Rattle.sheet.specs.Phases.{taken_by, told, told_run, boxes, acts, steps, goes, flows, views as views_of};
+ghost use Rattle.sheet.specs.Phases.{TakenBy, told, told_run, boxes, acts, steps, goes, flows, views as views_of};
 ghost use Rattle.sheet.specs.Reading.{parts, finish, model as model_of, reading_of};
 
-use super::{Arrows, Cursor, Due, Ids, Run, Sheet, Taken};
+use super::{Arrows, Cursor, Ids, Run, Sheet, Taken, lines, quick};
 use model::{Machine, Model, Refusal, Refused, Sizes};
 
-// The line at a place, if it is the one that is due; `Ended` where the text has no line more.
-pub(crate) fn take_due(
+// The line at a place, by what reads such a line; `Ended` where the text has no line more.
+pub(crate) fn take<T, F: FnOnce(&[u8]) -> Result<T, Refusal>>(
     sheet: Sheet<'_>,
     cursor: Cursor,
-    due: Due,
-    ids: Ids<'_>,
-) -> Result<Taken, Refused>
-    ensures { result ≡ taken_by (line_due due ids.entry.ids.now) sheet.entry.text.now cursor.at cursor.line }
+    read: F,
+) -> Result<Taken<T>, Refused>
+    requires { F.IsAlwaysCallable read }
+    ensures { TakenBy (FnOnceReturnsAt F.FnOnce read) sheet.entry.text.now cursor.at cursor.line result }
 {
     let Some(line) = text::line_from(sheet.text, cursor.at) else {
         return Err(Refused {
@@ -26,9 +26,9 @@ pub(crate) fn take_due(
             line: cursor.line,
         });
     };
-    match super::lines::line_due(&sheet.text[line.start..line.end], due, ids) {
-        Ok(numbers) => Ok(Taken {
-            numbers,
+    match read(&sheet.text[line.start..line.end]) {
+        Ok(read) => Ok(Taken {
+            read,
             next: line.next,
         }),
         Err(refusal) => Err(Refused {
@@ -49,8 +49,9 @@ fn read_boxes(
     let mut ids = [0u32; model::BOXES];
     let mut cursor = first;
     for k in 0..count {
-        let taken = take_due(sheet, cursor, Due::Box, Ids { ids: &ids[0..k] })?;
-        ids[k] = taken.numbers.first;
+        let known = &ids[0..k];
+        let taken = take(sheet, cursor, |line| lines::box_line(line, known))?;
+        ids[k] = taken.read;
         cursor = Cursor {
             at: taken.next,
             line: cursor.line + 1,
@@ -71,11 +72,12 @@ fn read_acts(
     requires count { count ≤ ACTIONS }
     ensures { told_run result sheet.entry.text.now ≡ acts ids.entry.ids.now count (lines (drop first.at sheet.entry.text.now)) first.line }
 {
+    let known = ids.ids;
     let mut owners = [0u8; model::ACTIONS];
     let mut cursor = first;
     for k in 0..count {
-        let taken = take_due(sheet, cursor, Due::Act, ids)?;
-        owners[k] = taken.numbers.first as u8;
+        let taken = take(sheet, cursor, |line| lines::act_line(line, known))?;
+        owners[k] = taken.read as u8;
         cursor = Cursor {
             at: taken.next,
             line: cursor.line + 1,
@@ -92,7 +94,6 @@ fn read_goes(
     sheet: Sheet<'_>,
     first: Cursor,
     sizes: Sizes,
-    ids: Ids<'_>,
     next: &mut [u16],
     outputs: &mut [u16],
 ) -> Result<Cursor, Refused>
@@ -107,9 +108,10 @@ fn read_goes(
     for k in 0..total {
         let state = k as u32 / actions as u32;
         let action = k as u32 % actions as u32;
-        let taken = super::quick::take_go(sheet, cursor, states as u32, state, action, ids)?;
-        next[k] = taken.numbers.third as u16;
-        outputs[k] = taken.numbers.fourth as u16;
+        let taken = quick::take_go(sheet, cursor, states as u32, state, action)?;
+        let (after, output) = taken.read;
+        next[k] = after as u16;
+        outputs[k] = output as u16;
         cursor = Cursor {
             at: taken.next,
             line: cursor.line + 1,
@@ -149,23 +151,24 @@ fn read_flows(
     let mut cursor = first;
     // as many lines as there are, up to the first of another kind
     while cursor.at < sheet.text.len() {
-        let Some(drawn) = super::quick::take_flow(sheet, cursor, ids)? else {
+        let taken = quick::take_flow(sheet, cursor, ids.ids)?;
+        let Some(arrow) = taken.read else {
             return Ok(Run {
                 read: arrows,
                 next: cursor,
             });
         };
-        match drawn.arrows {
+        match arrow {
             Arrows::One(v, u) => {
-                draw(&mut arrows, v as usize, u as usize);
+                draw(&mut arrows, v, u);
             }
             Arrows::Two(v, u) => {
-                draw(&mut arrows, v as usize, u as usize);
-                draw(&mut arrows, u as usize, v as usize);
+                draw(&mut arrows, v, u);
+                draw(&mut arrows, u, v);
             }
         }
         cursor = Cursor {
-            at: drawn.next,
+            at: taken.next,
             line: cursor.line + 1,
         };
     }
@@ -191,8 +194,8 @@ fn read_views(
     let mut cursor = first;
     for k in 0..total {
         let id = ids.ids[k / states];
-        let taken = super::quick::take_view(sheet, cursor, id, k as u32 % states as u32, ids)?;
-        views[k] = taken.numbers.third as u16;
+        let taken = quick::take_view(sheet, cursor, id, k as u32 % states as u32)?;
+        views[k] = taken.read as u16;
         cursor = Cursor {
             at: taken.next,
             line: cursor.line + 1,
@@ -219,7 +222,7 @@ pub(crate) fn read_body(
         ids: &boxes.read[0..sizes.boxes],
     };
     let acts = read_acts(sheet, boxes.next, sizes.actions, ids)?;
-    let gone = read_goes(sheet, acts.next, sizes, ids, next, outputs)?;
+    let gone = read_goes(sheet, acts.next, sizes, next, outputs)?;
     let flows = read_flows(sheet, gone, ids)?;
     let last = read_views(sheet, flows.next, sizes.states, ids, views)?;
     if last.at < sheet.text.len() {

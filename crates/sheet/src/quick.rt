@@ -1,11 +1,12 @@
 // Lines read in one pass, where they are as they should be: no look for the line's end comes first. Any other line is left to
 // the exact way, which alone names refusals.
 ghost use Rattle.std.specs.Prelude.{◌≡◌, ℕ, ◌<◌, length};
-ghost use Rattle.sheet.specs.Records.{go_line, view_line};
+ghost use Rattle.sheet.specs.Numbers.{as_step, as_class};
+ghost use Rattle.sheet.specs.Records.{go_line, view_line, flow_line};
 ghost use Rattle.sheet.specs.Phases.{taken_by};
-ghost use Rattle.sheet.specs.OnePass.{NumberRead, MoreRead, Begins, Quickly, ArrowRead, flow_at, QuickFlow};
+ghost use Rattle.sheet.specs.OnePass.{NumberRead, MoreRead, Begins, Quickly, ArrowRead};
 
-use super::{Arrows, Cursor, Digits, Drawn, Due, Ids, Numbers, Sheet, Taken};
+use super::{Arrows, Cursor, Digits, Sheet, Taken, lines, phases};
 use model::Refused;
 
 impl<'a> Sheet<'a> {
@@ -70,8 +71,14 @@ impl<'a> Sheet<'a> {
     }
 }
 
-fn quick_go(sheet: Sheet<'_>, at: usize, states: u32, state: u32, action: u32) -> Option<Taken>
-    ensures { Quickly (λ n. taken_by (go_line states state action) sheet.entry.text.now at n) result }
+fn quick_go(
+    sheet: Sheet<'_>,
+    at: usize,
+    states: u32,
+    state: u32,
+    action: u32,
+) -> Option<Taken<(u32, u32)>>
+    ensures { Quickly (λ n. taken_by (λ l. as_step (go_line states state action l)) sheet.entry.text.now at n) result }
 {
     let n = model::LARGEST_NUMBER;
     if sheet.begins(at, b"go") {
@@ -81,12 +88,7 @@ fn quick_go(sheet: Sheet<'_>, at: usize, states: u32, state: u32, action: u32) -
         let output = sheet.digits_from(next.next, b'\n', n)?;
         if s.value == state && a.value == action && next.value < states {
             return Some(Taken {
-                numbers: Numbers {
-                    first: s.value,
-                    second: a.value,
-                    third: next.value,
-                    fourth: output.value,
-                },
+                read: (next.value, output.value),
                 next: output.next,
             });
         }
@@ -94,8 +96,8 @@ fn quick_go(sheet: Sheet<'_>, at: usize, states: u32, state: u32, action: u32) -
     None
 }
 
-fn quick_view(sheet: Sheet<'_>, at: usize, id: u32, state: u32) -> Option<Taken>
-    ensures { Quickly (λ n. taken_by (view_line id state) sheet.entry.text.now at n) result }
+fn quick_view(sheet: Sheet<'_>, at: usize, id: u32, state: u32) -> Option<Taken<u32>>
+    ensures { Quickly (λ n. taken_by (λ l. as_class (view_line id state l)) sheet.entry.text.now at n) result }
 {
     let n = model::LARGEST_NUMBER;
     if sheet.begins(at, b"view") {
@@ -104,12 +106,7 @@ fn quick_view(sheet: Sheet<'_>, at: usize, id: u32, state: u32) -> Option<Taken>
         let class = sheet.digits_from(s.next, b'\n', n)?;
         if i.value == id && s.value == state {
             return Some(Taken {
-                numbers: Numbers {
-                    first: i.value,
-                    second: s.value,
-                    third: class.value,
-                    fourth: 0,
-                },
+                read: class.value,
                 next: class.next,
             });
         }
@@ -124,19 +121,15 @@ pub(crate) fn take_go(
     states: u32,
     state: u32,
     action: u32,
-    ids: Ids<'_>,
-) -> Result<Taken, Refused>
-    ensures { result ≡ taken_by (go_line states state action) sheet.entry.text.now cursor.at cursor.line }
+) -> Result<Taken<(u32, u32)>, Refused>
+    ensures { result ≡ taken_by (λ l. as_step (go_line states state action l)) sheet.entry.text.now cursor.at cursor.line }
 {
     if let Some(taken) = quick_go(sheet, cursor.at, states, state, action) {
         return Ok(taken);
     }
-    let due = Due::Go {
-        states,
-        state,
-        action,
-    };
-    super::phases::take_due(sheet, cursor, due, ids)
+    phases::take(sheet, cursor, |line| {
+        lines::go_line(line, states, state, action)
+    })
 }
 
 // The `view` line that is due, likewise.
@@ -145,41 +138,40 @@ pub(crate) fn take_view(
     cursor: Cursor,
     id: u32,
     state: u32,
-    ids: Ids<'_>,
-) -> Result<Taken, Refused>
-    ensures { result ≡ taken_by (view_line id state) sheet.entry.text.now cursor.at cursor.line }
+) -> Result<Taken<u32>, Refused>
+    ensures { result ≡ taken_by (λ l. as_class (view_line id state l)) sheet.entry.text.now cursor.at cursor.line }
 {
     if let Some(taken) = quick_view(sheet, cursor.at, id, state) {
         return Ok(taken);
     }
-    super::phases::take_due(sheet, cursor, Due::View { id, state }, ids)
+    phases::take(sheet, cursor, |line| lines::view_line(line, id, state))
 }
 
 // The two ids of an arrow from `at` on, as positions.
-fn quick_arrow(sheet: Sheet<'_>, at: usize, ids: Ids<'_>) -> Option<(u32, u32, usize)>
+fn quick_arrow(sheet: Sheet<'_>, at: usize, ids: &[u32]) -> Option<(usize, usize, usize)>
     requires { at < length sheet.text.now }
-    ensures { ArrowRead ids.entry.ids.now sheet.entry.text.now at result }
+    ensures { ArrowRead ids.now sheet.entry.text.now at result }
 {
     let from = sheet.digits_from(at, b'\t', model::LARGEST_ID)?;
     let to = sheet.digits_from(from.next, b'\n', model::LARGEST_ID)?;
-    let v = ids.position(from.value)?;
-    let u = ids.position(to.value)?;
-    Some((v as u32, u as u32, to.next))
+    let v = lines::position(ids, from.value)?;
+    let u = lines::position(ids, to.value)?;
+    Some((v, u, to.next))
 }
 
-fn quick_flow(sheet: Sheet<'_>, at: usize, ids: Ids<'_>) -> Option<Drawn>
-    ensures { QuickFlow (λ n. flow_at ids.entry.ids.now sheet.entry.text.now at n) result }
+fn quick_flow(sheet: Sheet<'_>, at: usize, ids: &[u32]) -> Option<Taken<Option<Arrows>>>
+    ensures { Quickly (λ n. taken_by (flow_line ids.now) sheet.entry.text.now at n) result }
 {
     if sheet.begins(at, b"flow") {
         let (v, u, next) = quick_arrow(sheet, at + 5, ids)?;
-        Some(Drawn {
-            arrows: Arrows::One(v, u),
+        Some(Taken {
+            read: Some(Arrows::One(v, u)),
             next,
         })
     } else if sheet.begins(at, b"both") {
         let (v, u, next) = quick_arrow(sheet, at + 5, ids)?;
-        Some(Drawn {
-            arrows: Arrows::Two(v, u),
+        Some(Taken {
+            read: Some(Arrows::Two(v, u)),
             next,
         })
     } else {
@@ -187,38 +179,16 @@ fn quick_flow(sheet: Sheet<'_>, at: usize, ids: Ids<'_>) -> Option<Drawn>
     }
 }
 
-// The same by the exact way.
-fn exact_flow(sheet: Sheet<'_>, cursor: Cursor, ids: Ids<'_>) -> Result<Option<Drawn>, Refused>
-    requires { cursor.at < length sheet.text.now }
-    ensures { result ≡ flow_at ids.entry.ids.now sheet.entry.text.now cursor.at cursor.line }
-{
-    let Some(line) = text::line_from(sheet.text, cursor.at) else {
-        return Ok(None);
-    };
-    match super::lines::flow_line(&sheet.text[line.start..line.end], ids) {
-        Ok(Some(arrows)) => Ok(Some(Drawn {
-            arrows,
-            next: line.next,
-        })),
-        Ok(None) => Ok(None),
-        Err(refusal) => Err(Refused {
-            refusal,
-            line: cursor.line,
-        }),
-    }
-}
-
-// A `flow` or a `both` line, by the quick way or the exact one; none where it is another line.
+// A `flow` or a `both` line, likewise; no arrows where it is another line.
 pub(crate) fn take_flow(
     sheet: Sheet<'_>,
     cursor: Cursor,
-    ids: Ids<'_>,
-) -> Result<Option<Drawn>, Refused>
-    requires { cursor.at < length sheet.text.now }
-    ensures { result ≡ flow_at ids.entry.ids.now sheet.entry.text.now cursor.at cursor.line }
+    ids: &[u32],
+) -> Result<Taken<Option<Arrows>>, Refused>
+    ensures { result ≡ taken_by (flow_line ids.now) sheet.entry.text.now cursor.at cursor.line }
 {
-    if let Some(drawn) = quick_flow(sheet, cursor.at, ids) {
-        return Ok(Some(drawn));
+    if let Some(taken) = quick_flow(sheet, cursor.at, ids) {
+        return Ok(taken);
     }
-    exact_flow(sheet, cursor, ids)
+    phases::take(sheet, cursor, |line| lines::flow_line(line, ids))
 }
