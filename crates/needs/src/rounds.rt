@@ -4,8 +4,8 @@ ghost use Rattle.laws.specs.Choice.{both, brings};
 ghost use Rattle.laws.specs.Range.{every};
 ghost use Rattle.model.specs.Limits.{STATES};
 ghost use Rattle.reach.specs.Set.{flag_at};
-ghost use Rattle.needs.specs.Tables.{step_in, entry};
-ghost use Rattle.needs.specs.Classes.{agrees, unchanged, Below, Led};
+ghost use Rattle.needs.specs.Tables.{entry};
+ghost use Rattle.needs.specs.Classes.{agrees_in, unchanged, Below, Led};
 ghost use Rattle.needs.specs.Again.{Quiet, Leads, Places, On, Longer, Stayed, Moved, MovedTo, kept_number};
 ghost use Rattle.needs.specs.Starts.{next_slot, Begun};
 ghost use Rattle.needs.specs.Laws.{agree_sorts};
@@ -26,7 +26,7 @@ pub(crate) struct Classes<'w, 'n> {
 
 // States are alike that have one class number, now and after each action.
 impl<'w, 'n> Likeness for Classes<'w, 'n> {
-    ghost alike = { λ c. agrees (step_in c.walk.actions c.walk.next.now) c.walk.actions (entry c.numbers.now) };
+    ghost alike = { λ c. agrees_in c.walk.actions c.walk.next.now c.numbers.now };
 
     ghost old = { λ c. entry c.numbers.now };
 
@@ -140,15 +140,16 @@ pub(crate) fn place(
     moved: &mut Moves,
     s: usize,
 )
-    requires led { Led (flag_at inside.now) (agrees (step_in classes.now.walk.actions classes.now.walk.next.now) classes.now.walk.actions (entry classes.now.numbers.now)) d.old s }
+    requires led { Led (flag_at inside.now) (agrees_in classes.now.walk.actions classes.now.walk.next.now classes.now.numbers.now) d.old s }
     requires leads { Leads classes.now.walk.actions classes.now.walk.next.now classes.now.numbers.now lead.old inside.now marks.now s }
-    requires begun { Begun (flag_at inside.now) (agrees (step_in classes.now.walk.actions classes.now.walk.next.now) classes.now.walk.actions (entry classes.now.numbers.now)) (entry classes.now.numbers.now) (next_slot classes.now.walk.actions classes.now.walk.next.now classes.now.numbers.now) starts.old s }
+    requires begun { Begun (flag_at inside.now) (agrees_in classes.now.walk.actions classes.now.walk.next.now classes.now.numbers.now) (entry classes.now.numbers.now) (next_slot classes.now.walk.actions classes.now.walk.next.now classes.now.numbers.now) starts.old s }
     requires moved_to { MovedTo s classes.now.numbers.now d.old lead.old moved.old.list moved.old.count }
-    requires follows { (s < classes.now.walk.states) × (entry classes.now.numbers.now s ≢ s) }
+    requires s_bound { s < classes.now.walk.states }
+    requires no_first { entry classes.now.numbers.now s ≢ s }
     requires unknown { flag_at marks.now s ≡ false → STATES ≤ entry lead.old (entry classes.now.numbers.now s) }
-    ensures led { Led (flag_at inside.now) (agrees (step_in classes.now.walk.actions classes.now.walk.next.now) classes.now.walk.actions (entry classes.now.numbers.now)) d.new (s + 1) }
+    ensures led { Led (flag_at inside.now) (agrees_in classes.now.walk.actions classes.now.walk.next.now classes.now.numbers.now) d.new (s + 1) }
     ensures leads { Leads classes.now.walk.actions classes.now.walk.next.now classes.now.numbers.now lead.new inside.now marks.now (s + 1) }
-    ensures begun { Begun (flag_at inside.now) (agrees (step_in classes.now.walk.actions classes.now.walk.next.now) classes.now.walk.actions (entry classes.now.numbers.now)) (entry classes.now.numbers.now) (next_slot classes.now.walk.actions classes.now.walk.next.now classes.now.numbers.now) starts.new (s + 1) }
+    ensures begun { Begun (flag_at inside.now) (agrees_in classes.now.walk.actions classes.now.walk.next.now classes.now.numbers.now) (entry classes.now.numbers.now) (next_slot classes.now.walk.actions classes.now.walk.next.now classes.now.numbers.now) starts.new (s + 1) }
     ensures moved_to { MovedTo (s + 1) classes.now.numbers.now d.new lead.new moved.new.list moved.new.count }
 {
     let old = usize::from(classes.numbers[s]);
@@ -198,7 +199,7 @@ pub(crate) fn round(
     marks: &[bool; STATES],
 ) -> Rounded
     requires { Quiet classes.now.walk.states classes.now.walk.actions classes.now.walk.next.now classes.now.numbers.now marks.now }
-    ensures led { Led (flag_at inside.now) (agrees (step_in classes.now.walk.actions classes.now.walk.next.now) classes.now.walk.actions (entry classes.now.numbers.now)) result.numbers classes.now.walk.states }
+    ensures led { Led (flag_at inside.now) (agrees_in classes.now.walk.actions classes.now.walk.next.now classes.now.numbers.now) result.numbers classes.now.walk.states }
     ensures same { result.same ≡ unchanged classes.now.walk.states (flag_at inside.now) (entry classes.now.numbers.now) (entry result.numbers) }
     ensures moved { Moved classes.now.walk.states classes.now.numbers.now result.numbers result.moved.list result.moved.count }
 {
