@@ -22,7 +22,7 @@ ghost use Rattle.needs.specs.Listed.{padded};
 ghost use Rattle.needs.specs.Answered.{found_in, needed_of, list_of};
 
 use crate::arrows::{mark, write_list};
-use crate::changes::{again, befores};
+use crate::changes::{again, note_befores};
 use crate::outputs::{Outputs, first_round, observes, own_actions};
 use crate::rounds::{Classes, one_class, round};
 use crate::walk::Walk;
@@ -122,7 +122,8 @@ fn sort(tables: &Tables<'_>, inside: &[bool; STATES]) -> Sorted
     };
     let mut table = [false; ARROWS];
     let mut depths = [0usize; BOXES];
-    let before = befores(&walk);
+    let mut before = [false; STATE_PAIRS];
+    note_befores(&walk, &mut before);
     'boxes: for u in 0..machine.sizes.boxes {
         if observes(machine, u) {
             let refinement = refine(tables, inside, &before, u);
@@ -170,6 +171,8 @@ fn found(tables: &Tables<'_>, reached: &Set, list: &mut [u16]) -> Needs
 
 // The needed arrows and the depths of a machine. Refused: a table or a list of another length, which leaves the list untouched;
 // a machine or a next state that breaks the rules, which zeroes it.
+// Not inlined, so that its tables leave the stack with it.
+#[inline(never)]
 pub fn needed(
     machine: Machine,
     next: &[u16],
