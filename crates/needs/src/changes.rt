@@ -89,8 +89,8 @@ pub(crate) fn leading(before: &[bool; STATE_PAIRS], moved: &Moves) -> [bool; STA
     ensures { Covered before.now moved.now.list result moved.now.count }
 {
     let mut marks = [false; STATES];
-    'moved: for i in 0..moved.count {
-        merge(&mut marks, before, usize::from(moved.list[i]));
+    for &x in &moved.list[..moved.count] {
+        merge(&mut marks, before, usize::from(x));
     }
     marks
 }
