@@ -246,13 +246,5 @@ pub(crate) fn one_class(inside: &[bool; STATES], c: &[u8; STATES], states: usize
     requires { states ≤ STATES }
     ensures { result ≡ every states (λ s. brings (flag_at inside.now s) (eqb (entry c.now s) 0)) }
 {
-    'states: for s in 0..states {
-        if c[s] == 0 {
-            continue 'states;
-        }
-        if inside[s] {
-            return false;
-        }
-    }
-    true
+    (0..states).all(|s| c[s] == 0 || !inside[s])
 }
