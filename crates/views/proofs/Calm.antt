@@ -76,9 +76,16 @@ pub idle_keeps : {states actions : ℕ} {next : List ℕ} {a : ℕ} (low : List 
 idle_keeps low u h = record { keeps = λ s l. ap (low_at low u) (sym (h.idle s l)) }
 
 -- ---- no class changes
-pub keeps_of : {states actions : ℕ} {next low : List ℕ} {u a : ℕ} {r : Bool} → r ≡ every states (λ s. eqb (low_at low u s) (sent actions next low u a s)) → r ≡ true →
-    Keeps states actions next low u a
-keeps_of e h = record { keeps = λ s l. eqb-true _ _ (every_at _ _ (sym e ∙ h) s l) }
+pub keeps_none : (actions : ℕ) (next low : List ℕ) (u a : ℕ) → Keeps 0 actions next low u a
+keeps_none actions next low u a = record { keeps = λ s l. absurd (not-suc-le-zero l) }
+
+pub keeps_more : {n actions : ℕ} {next low : List ℕ} {u a x y : ℕ} → Keeps n actions next low u a → x ≡ low_at low u n → y ≡ sent actions next low u a n →
+    x ≡ y → Keeps (n + 1) actions next low u a
+keeps_more {n} {actions} {next} {low} {u} {a} h ex ey e =
+    record { keeps = below_more (λ s. low_at low u s ≡ sent actions next low u a s) n h.keeps (sym ex ∙ e ∙ ey) }
+
+pub keeps_all : {n states actions : ℕ} {next low : List ℕ} {u a : ℕ} → Keeps n actions next low u a → states ≤ n → Keeps states actions next low u a
+keeps_all h l = record { keeps = λ s p. h.keeps s (omega arith) }
 
 pub keeps_calm : {states actions : ℕ} {next low : List ℕ} {u a : ℕ} (o : ℕ) → Keeps states actions next low u a → Calm states actions next low u o a
 keeps_calm o h = record { calm = λ s t p q r k. sym (h.keeps s p) ∙ r ∙ h.keeps t q }

