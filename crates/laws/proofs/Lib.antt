@@ -15,3 +15,4 @@ pub mod Bits
 pub mod Chosen
 pub mod Firsts
 pub mod Grown
+pub mod Ranges

@@ -100,11 +100,8 @@ kept_first {lead = lead} {s = s} w h m l =
     (λ e. kept_old lead s refl (ltb-false (entry lead s) STATES e))
 
 -- ---- the list is filled while the numbers are
-pub moved_none : {c d lead list : List ℕ} → length list ≡ STATES → MovedTo 0 c d lead list 0
-moved_none e = record {
-  places = record { long = e; most = omega arith; within = λ i l. absurd (not-suc-le-zero l) };
-  listed = λ l x q. absurd (not-suc-le-zero q);
-}
+pub moved_none : {c d lead list : List ℕ} {n : ℕ} → Places list n → MovedTo 0 c d lead list n
+moved_none p = record { places = p; listed = λ l x q. absurd (not-suc-le-zero q) }
 
 module _ {c d lead list : List ℕ} {s n : ℕ} (h : MovedTo s c d lead list n) (p : s < length d) (v : ℕ) where
   earlier : (x : ℕ) → x < s → entry (set d s v) x ≡ entry d x

@@ -24,7 +24,7 @@ ghost use Rattle.needs.specs.Answered.{found_in, needed_of, list_of};
 use crate::arrows::{mark, write_list};
 use crate::changes::{again, note_befores};
 use crate::outputs::{Outputs, first_round, observes, own_actions};
-use crate::rounds::{Classes, one_class, round};
+use crate::rounds::{Classes, Moves, one_class, round};
 use crate::walk::Walk;
 use model::{
     ARROWS, BOXES, LIST_ENTRIES, Machine, NEXT_ENTRIES, OUTPUT_ENTRIES, Refusal, Refused, STATES,
@@ -92,11 +92,16 @@ fn refine(
             walk,
             numbers: &numbers,
         };
-        let outcome = round(&classes, inside, &marks);
+        // lent, since moving it inside the outcome copied it three times a round (needed arrows of chain-even: 2,340 -> 2,433 thousand instructions)
+        let mut moved = Moves {
+            list: [0u8; STATES],
+            count: 0,
+        };
+        let outcome = round(&classes, inside, &marks, &mut moved);
         if outcome.same {
             return Refinement { numbers, rounds };
         }
-        marks = again(before, &classes, &outcome.numbers, &outcome.moved);
+        marks = again(before, &classes, &outcome.numbers, &moved);
         numbers = outcome.numbers;
         rounds += 1;
     }
