@@ -4,6 +4,3 @@ use Rattle.model.proofs.rules.id_is_new.Goals as goal
 
 pub returns-then-id : goal.returns-then-id
 returns-then-id c = search each
-
-pub returns : goal.returns
-returns c = search each

@@ -7,14 +7,6 @@ pub returns-then-id-gt-LARGEST_ID : goal.returns-then-id-gt-LARGEST_ID
 unfolding ids_fit
 returns-then-id-gt-LARGEST_ID c = search each
 
-pub boxes-preserved : goal.boxes-preserved
-unfolding ids_fit
-boxes-preserved c = search each
-
 pub returns-then-not-id_is_new : goal.returns-then-not-id_is_new
 unfolding ids_fit
 returns-then-not-id_is_new c = search each
-
-pub returns : goal.returns
-unfolding ids_fit
-returns c = search each

@@ -6,7 +6,3 @@ use Rattle.model.proofs.rules.owners_fit.Goals as goal
 pub returns-then-machine-owner : goal.returns-then-machine-owner
 unfolding owners_fit
 returns-then-machine-owner c = search each
-
-pub returns : goal.returns
-unfolding owners_fit
-returns c = search each

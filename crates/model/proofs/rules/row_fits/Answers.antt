@@ -4,6 +4,3 @@ use Rattle.model.proofs.rules.row_fits.Goals as goal
 
 pub returns-then-states-at : goal.returns-then-states-at
 returns-then-states-at c = search each
-
-pub returns : goal.returns
-returns c = search each

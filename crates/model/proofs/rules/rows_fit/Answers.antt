@@ -7,10 +7,6 @@ pub returns-then-not-row_fits : goal.returns-then-not-row_fits
 unfolding next_fits
 returns-then-not-row_fits c = search each
 
-pub states-preserved : goal.states-preserved
-unfolding next_fits
-states-preserved c = search each
-
 pub returns : goal.returns
 unfolding next_fits
 returns c = search each

@@ -6,7 +6,3 @@ use Rattle.model.proofs.rules.selves_fit.Goals as goal
 pub returns-then-not-arrow : goal.returns-then-not-arrow
 unfolding selves_fit
 returns-then-not-arrow c = search each
-
-pub returns : goal.returns
-unfolding selves_fit
-returns c = search each
