@@ -72,17 +72,6 @@ unfolding gather
 gather_small k zero f s = omega arith
 gather_small k (suc n) f s = rw (pow-suc 2 n) (omega (arith, gather_small (k + 1) n f s, s k))
 
--- one place more, in front
-pub gather_more : (n k : ℕ) (f : ℕ → ℕ) → 0 < k → k ≤ n → f (k - 1) + 2 * gather k (n - k) f ≡ gather (k - 1) (n - (k - 1)) f
-unfolding gather
-gather_more n k f pos le = rw (more n k pos le) (ap (λ (m : ℕ). f (k - 1) + 2 * gather m (n - k) f) (same k pos))
-  where
-    more : (n k : ℕ) → 0 < k → k ≤ n → n - (k - 1) ≡ suc (n - k)
-    more n k pos le = omega arith
-
-    same : (k : ℕ) → 0 < k → k ≡ k - 1 + 1
-    same k pos = omega arith
-
 -- ---- what the edits do to the bits
 pub cut_none : (p : ℕ) → cut p 0 ≡ 0
 unfolding cut

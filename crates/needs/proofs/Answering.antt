@@ -3,14 +3,12 @@
 use mathlib.Core.Path.{◌≡◌, refl, sym, ◌∙◌, ap, ap₂, subst}
 use mathlib.Core.Bool.{Bool, true, false}
 use mathlib.Core.List.{List, [], ◌∷◌, ◌++◌}
-use Prim.Native.Nat.{ℕ, zero, suc, ◌+◌, ◌<◌, ◌≤◌}
-use native.Mathlib.Nat.{not-suc-le-zero}
+use Prim.Native.Nat.{ℕ, zero, suc, ◌<◌, ◌≤◌}
 use native.Mathlib.Omega.{arith}
-use borrow.Author.Count.{below_more}
-use borrow.Author.Tests.{eq-eqb, ne_eqb, ltb-true, ltb-false}
+use borrow.Author.Tests.{ltb-true, ltb-false}
 use lib.Dec.{eqb, ltb}
-use lib.ListN.{length, set, length-set, replicate}
-use lib.Seq.{get_or-set_same, get_or-set_other, ext_get_or}
+use lib.ListN.{length, set, replicate}
+use lib.Seq.{ext_get_or}
 use Rattle.laws.specs.Choice.{both, choose}
 use Rattle.laws.specs.Range.{count}
 use Rattle.laws.proofs.Tests.{by_test, agree, both_of, both_no, false_of}
@@ -46,17 +44,6 @@ pub record CopiedTo (flags from : List Bool) (n : ℕ) : Type 0 where
   pub each : (s : ℕ) → s < n → flag_at flags s ≡ flag_at from s
 
 module _ {from : List Bool} where
-  pub copied_none : {flags : List Bool} → length flags ≡ STATES → CopiedTo flags from 0
-  copied_none e = record { long = e; each = λ s l. absurd (not-suc-le-zero l) }
-
-  pub copied_more : {flags : List Bool} {n : ℕ} {b : Bool} → CopiedTo flags from n → n < STATES → b ≡ flag_at from n → CopiedTo (set flags n b) from (n + 1)
-  copied_more {flags} {n} {b} h l e = record {
-    long = length-set flags n b ∙ h.long;
-    each = below_more (λ s. flag_at (set flags n b) s ≡ flag_at from s) n
-        (λ s k. get_or-set_other flags n s b false (λ q. absurd (omega arith)) ∙ h.each s k)
-        (get_or-set_same flags n b false (omega (arith, h.long)) ∙ e);
-  }
-
   pub copied_all : {flags : List Bool} {n : ℕ} → CopiedTo flags from n → STATES ≤ n → length from ≡ STATES → flags ≡ from
   copied_all {flags} h l e = ext_get_or false flags from (h.long ∙ sym e) (λ s k. h.each s (omega (arith, h.long)))
 

@@ -111,10 +111,5 @@ pub(crate) fn first_round(
 pub(crate) fn observes(machine: &Machine, u: usize) -> bool
     ensures { result ≡ some machine.now.sizes.actions (λ a. eqb (owner_at machine.now a) u) }
 {
-    'actions: for a in 0..machine.sizes.actions {
-        if machine.owner(a) == u {
-            return true;
-        }
-    }
-    false
+    (0..machine.sizes.actions).any(|a| machine.owner(a) == u)
 }

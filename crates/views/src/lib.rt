@@ -174,6 +174,8 @@ fn of_length<const N: usize>(table: &[u16]) -> Result<&[u16; N], Refusal>
 
 // Whether the views of a model are accepted. The tables are only read. Refused: a table of another length, and a model or a next
 // state that breaks the rules.
+// Not inlined, so that its tables leave the stack with it.
+#[inline(never)]
 pub fn judge(model: Model, next: &[u16], outputs: &[u16], views: &[u16]) -> Result<(), Fault>
     ensures { result ≡ judgement_of model next.now outputs.now views.now }
 {

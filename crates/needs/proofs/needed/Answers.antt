@@ -1,12 +1,11 @@
 -- `needs::needed` meets its contract.
-use Rattle.std.proofs.Common.{rules, ◌≡◌, refl, sym, ◌∙◌, ap, length, false, true}
+use Rattle.std.proofs.Common.{rules, ◌≡◌, sym, ◌∙◌, ap, length, false, true}
 use Rattle.std.specs.Prelude.{eqb, Err}
 use Rattle.model.specs.Limits.{NEXT_ENTRIES, OUTPUT_ENTRIES, LIST_ENTRIES}
 use Rattle.model.specs.Refusal.{refused_as}
 use Rattle.model.specs.declared.refusal.Refusal.TheVariants.{Length}
 use Rattle.needs.proofs.Answering.{lengths_outputs, lengths_list, lengths_next, lengths_all, needed_lengths, list_lengths}
 use Rattle.std.specs.Prelude.{Ok, replicate}
-use Rattle.model.specs.declared.refusal.Refusal.TheVariants.{Rules}
 use Rattle.model.proofs.Good.{table_good}
 use borrow.Author.Tests.{eqb-true}
 use Rattle.reach.specs.Answered.{answer_of}
