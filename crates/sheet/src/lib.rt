@@ -18,7 +18,7 @@ pub use cursor::Cursor;
 use cursor::{Ids, Sheet};
 use model::{Model, Refusal, Refused};
 
-// The numbers of a record, 0 beyond its count.
+// The numbers of a record, 0 beyond its count. Four, since the definition `Record` has four, of which the theorems on the refusal table speak.
 #[derive(Clone, Copy)]
 pub struct Numbers {
     pub first: u32,
@@ -88,7 +88,9 @@ fn read_text(
     outputs: &mut [u16],
     views: &mut [u16],
 ) -> Result<Model, Refused>
-    requires { (next.old ≡ zeros NEXT_ENTRIES) × (outputs.old ≡ zeros OUTPUT_ENTRIES) × (views.old ≡ zeros VIEW_ENTRIES) }
+    requires next_zero { next.old ≡ zeros NEXT_ENTRIES }
+    requires outputs_zero { outputs.old ≡ zeros OUTPUT_ENTRIES }
+    requires views_zero { views.old ≡ zeros VIEW_ENTRIES }
     ensures { reading_of result (steps next.new outputs.new) views.new ≡ sheet_text text.now }
 {
     let n = text.len();

@@ -122,10 +122,10 @@ fn read_goes(
 
 // An arrow more, from v to u.
 fn draw(arrows: &mut [u32; model::BOXES], v: usize, u: usize)
-    requires { (length arrows.old ≡ BOXES) × (v < BOXES) × (u < BOXES) }
+    requires boxes { (v < BOXES) × (u < BOXES) }
     ensures { arrows.new ≡ drawn v u arrows.old }
 {
-    arrows[v] = arrows[v] | 1u32 << u;
+    arrows[v] |= 1u32 << u;
 }
 
 // The self-arrows of the first `boxes` boxes, and no others.

@@ -27,7 +27,8 @@ impl<'a> Sheet<'a> {
 
     // The number whose first digits made `first`, its others from `at` on, up to `stop`.
     fn digits_more(self, at: usize, stop: u8, limit: u32, first: u32) -> Option<Digits>
-        requires { (at < length self.text.now) × (0 < first) }
+        requires in_text { at < length self.text.now }
+        requires positive { 0 < first }
         ensures { MoreRead limit self.entry.text.now stop at first result }
     {
         let mut value = first;

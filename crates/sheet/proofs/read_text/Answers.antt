@@ -8,10 +8,10 @@ use Rattle.sheet.proofs.read_text.Goals as goal
 use Rattle.sheet.proofs.read_text.Goals.{else-n-gt0-via-then-n-gt0+then-n-le-SHEET_BYTES+else-text-n-eq10, else-n-gt0-via-then-n-gt0+else-n-le-SHEET_BYTES, else-n-gt0-via-else-n-gt0}
 
 pub read_lines-requires : goal.read_lines-requires
-read_lines-requires c = record { lengths = (ap length c.requires.0 ∙ zeros_length NEXT_ENTRIES, ap length c.requires.1 ∙ zeros_length OUTPUT_ENTRIES, ap length c.requires.2 ∙ zeros_length VIEW_ENTRIES) }
+read_lines-requires c = record { lengths = (ap length c.requires.next_zero ∙ zeros_length NEXT_ENTRIES, ap length c.requires.outputs_zero ∙ zeros_length OUTPUT_ENTRIES, ap length c.requires.views_zero ∙ zeros_length VIEW_ENTRIES) }
 
 pub returns-then-text-n-eq10 : goal.returns-then-text-n-eq10
-returns-then-text-n-eq10 c = c.read_lines.ensures ∙ over_zeros c.args.text.now c.args.next.now c.args.outputs.now c.args.views.now c.requires.0 c.requires.1 c.requires.2 (omega arith) (omega arith) c.if-text-n-eq10.true
+returns-then-text-n-eq10 c = c.read_lines.ensures ∙ over_zeros c.args.text.now c.args.next.now c.args.outputs.now c.args.views.now c.requires.next_zero c.requires.outputs_zero c.requires.views_zero (omega arith) (omega arith) c.if-text-n-eq10.true
 
 pub returns-else-n-gt0 : goal.returns-else-n-gt0
 unfolding sheet_text

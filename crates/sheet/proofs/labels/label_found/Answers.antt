@@ -7,7 +7,7 @@ use Rattle.sheet.proofs.labels.label_found.Goals as goal
 
 pub read_text-requires : goal.read_text-requires
 unfolding zeros
-read_text-requires c = (refl, refl, refl)
+read_text-requires c = record { next_zero = refl; outputs_zero = refl; views_zero = refl }
 
 pub returns-in_err-model : goal.returns-in_err-model
 returns-in_err-model c = let p = err_from_is_err_and c.from_residual.result c.from_residual.ensures.1 in rw (p.1, p.2) (found_refused c.args.text.now c.read_text.result _ _ c.read_text.ensures c.args.position _ c.in_err-model.was)

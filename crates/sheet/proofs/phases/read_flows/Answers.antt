@@ -1,7 +1,6 @@
 -- `sheet::phases::read_flows` meets its contract. Assumes nothing.
-use Rattle.std.proofs.Common.{length, sym, ap, ◌∙◌, arith}
+use Rattle.std.proofs.Common.{sym, ◌∙◌, arith}
 use Rattle.std.proofs.lemmas.Result.{err_from_is_err_and}
-use Rattle.model.proofs.Arrows.{drawn_length}
 use Rattle.sheet.proofs.ArrowLines.{over, arrow_other, arrow_bad, arrow_one, arrow_two, one_known, two_known}
 use Rattle.sheet.proofs.phases.read_flows.Goals as goal
 use Rattle.sheet.proofs.phases.read_flows.Goals.{in-One, in-Two}
@@ -16,19 +15,19 @@ pub draw-requires : goal.draw-requires
 draw-requires c =
     let l = c.loop-cursor in
     let k = one_known l.invariant (omega arith) (sym c.take_flow.ensures ∙ c.in_ok-taken.was) c.in-Some.is _ _ c.in-One.is in
-    (l.invariant.room, omega (arith, k, c.args.ids.few), omega (arith, k, c.args.ids.few))
+    record { boxes = (omega (arith, k, c.args.ids.few), omega (arith, k, c.args.ids.few)) }
 
 pub draw-requires-in-Two : goal.draw-requires-in-Two
 draw-requires-in-Two c =
     let l = c.loop-cursor in
     let k = two_known l.invariant (omega arith) (sym c.take_flow.ensures ∙ c.in_ok-taken.was) c.in-Some.is _ _ c.in-Two.is in
-    (l.invariant.room, omega (arith, k, c.args.ids.few), omega (arith, k, c.args.ids.few))
+    record { boxes = (omega (arith, k, c.args.ids.few), omega (arith, k, c.args.ids.few)) }
 
 pub draw-requires-in-Two-2 : goal.draw-requires-in-Two-2
 draw-requires-in-Two-2 c =
     let l = c.loop-cursor in
     let k = two_known l.invariant (omega arith) (sym c.take_flow.ensures ∙ c.in_ok-taken.was) c.in-Some.is _ _ c.in-Two.is in
-    (ap length c.draw-in-Two.ensures ∙ drawn_length _ _ l.arrows ∙ l.invariant.room, omega (arith, k, c.args.ids.few), omega (arith, k, c.args.ids.few))
+    record { boxes = (omega (arith, k, c.args.ids.few), omega (arith, k, c.args.ids.few)) }
 
 pub loop-cursor-preserved : goal.loop-cursor-preserved
 loop-cursor-preserved c = elim c.match-arrow.branch [

@@ -38,7 +38,7 @@ digits_more-requires c =
     let q = c.args.self.ended in
     let h = after_digit q _ _ _ _ c.requires g in
     let h2 = after_digit q _ _ _ _ h g2 in
-    (omega (arith, after_digit q _ _ _ _ (omega arith) g3), digit_some _ _ _ _ g3 (digit_some _ _ _ _ g2 (omega arith)))
+    record { in_text = omega (arith, after_digit q _ _ _ _ (omega arith) g3); positive = digit_some _ _ _ _ g3 (digit_some _ _ _ _ g2 (omega arith)) }
 
 pub returns : goal.returns
 returns c =

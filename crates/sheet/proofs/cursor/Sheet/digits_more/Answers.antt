@@ -5,7 +5,7 @@ use Rattle.sheet.proofs.OnePass.{after_digit, more_one}
 use Rattle.sheet.proofs.cursor.Sheet.digits_more.Goals as goal
 
 pub loop-v-init : goal.loop-v-init
-loop-v-init c = record { within = c.requires.0; some = c.requires.1; back = λ r p. p }
+loop-v-init c = record { within = c.requires.in_text; some = c.requires.positive; back = λ r p. p }
 
 pub digits_end-requires : goal.digits_end-requires
 digits_end-requires c = c.loop-v.invariant.within
