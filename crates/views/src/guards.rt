@@ -1,4 +1,5 @@
 // What spares the judge its loops over states and pairs of states. Guards read the table of first alike states.
+// Loops go by number: a box, an action and a state together pick the entries of several flat tables (`u * STATES + s`, `s * actions + a`).
 ghost use Rattle.std.specs.Prelude.{◌≡◌, true, false, ◌+◌, ◌*◌, ◌<◌, ◌≤◌, get_or};
 ghost use Rattle.model.specs.Limits.{STATES, ACTIONS, BOXES};
 ghost use Rattle.views.specs.Guards.{SPOTS, low_at, sent, spot, Idle, Keeps, Kept, Alones, alone_in, strong_in, quiet_in, Links, Calm};
@@ -51,6 +52,7 @@ impl<'a> Tables<'a> {
     pub(crate) fn alones(&self) -> [bool; BOXES]
         ensures { Alones self.now.model.now.machine.sizes.states self.now.low.now result }
     {
+        // tried as `array::from_fn(|u| u < boxes && self.alone(u))`, and the proof didn't close
         let mut alones = [false; BOXES];
         'boxes: for u in 0..self.model.machine.sizes.boxes {
             alones[u] = self.alone(u);

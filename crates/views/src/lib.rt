@@ -1,4 +1,5 @@
 // The judge: whether views meet output, respect and step, and where they first do not.
+// Searches go by number: a box, an action and two states together pick the entries of several flat tables, and the place found is told by them.
 #![tactic(auto)]
 
 ghost use Rattle.std.specs.Prelude.{◌≡◌, ◌≢◌, [], length, MatchResult};

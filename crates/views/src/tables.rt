@@ -132,12 +132,9 @@ impl<'a> Row<'a> {
         requires { s < self.now.states }
         ensures { Least self.now.states self.now.views.now self.now.u s result }
     {
-        'earlier: for t in 0..s {
-            if self.class(t) == self.class(s) {
-                return t;
-            }
-        }
-        s
+        (0..s)
+            .find(|t| self.class(*t) == self.class(s))
+            .unwrap_or(s)
     }
 
     // The same where the first slot names a state of another class, by way of the second slots.
@@ -189,6 +186,7 @@ impl<'a> Row<'a> {
     {
         let mut slots = [255u8; SLOTS];
         let mut others = [255u8; SLOTS];
+        // by number: a state's class stands in one table, and its entry in another
         'states: for s in 0..self.states {
             let r = self.first_alike(&mut slots, &mut others, s);
             low[self.u * STATES + s] = r as u8;
@@ -203,6 +201,7 @@ pub(crate) fn lows(machine: &Machine, views: &[u16; VIEW_ENTRIES]) -> [u8; LOWS]
 {
     let states = machine.sizes.states;
     let mut low = [0u8; LOWS];
+    // by number: what a box fills is a row of the flat table
     'boxes: for u in 0..machine.sizes.boxes {
         let row = Row { views, states, u };
         row.fill(&mut low);

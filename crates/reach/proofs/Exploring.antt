@@ -23,15 +23,8 @@ use Rattle.model.specs.Good.{GoodTable}
 use Rattle.model.specs.declared.Machine.{Machine}
 use Rattle.laws.proofs.Cells.{cell, row}
 use Rattle.reach.specs.Set.{flag_at}
-use Rattle.reach.specs.Explored.{moving, Entered, Explored, Complete}
+use Rattle.reach.specs.Explored.{moving, Entered, Explored, Looking, Complete}
 use Rattle.laws.proofs.Tables.{set_true, set_stays, count_set, count_none}
-
--- the state s that stands next in the worklist, of whose actions those below a are looked at
-pub record Looking (m : Machine) (next : List ℕ) (flags : List Bool) (work : List ℕ) (done n s a : ℕ) : Type 0 where
-  pub so_far : Explored m next flags work done n
-  pub is : s ≡ get_or work done 0
-  pub below : done < n
-  pub each : (b : ℕ) → b < a → flag_at flags (next_at m next s b) ≡ true
 
 one_of : (a b : ℕ) (t : Bool) → eqb a b ≡ t → (a ≡ b) ⊎ (a ≢ b)
 one_of a b true e = inl (eqb-true a b e)
@@ -165,22 +158,25 @@ module _ {m : Machine} {next : List ℕ} (g : GoodTable m next) where
       }
 
   -- only the start is entered
-  pub explored_start : Explored m next (set (replicate STATES false) m.sizes.start true) (set (replicate STATES 0) 0 m.sizes.start) 0 1
-  explored_start = record {
+  pub explored_start : {work : List ℕ} → work ≡ replicate STATES m.sizes.start → Explored m next (set (replicate STATES false) m.sizes.start true) work 0 1
+  explored_start {work} e = record {
     flags_long = length-set (replicate STATES false) m.sizes.start true ∙ length-replicate {A = Bool} STATES false;
-    work_long = refl;
+    work_long = ap length e ∙ length-replicate {A = ℕ} STATES m.sizes.start;
     number = count_set (replicate STATES false) m.sizes.start fits (empty m.sizes.start) m.sizes.states g.machine.sizes.start_in
         ∙ ap (λ x. x + 1) (count_same m.sizes.states (flag_at (replicate STATES false)) (λ _. false) (λ i _. empty i) ∙ count_none m.sizes.states);
     begun = set_true (replicate STATES false) m.sizes.start fits;
     small = λ s q. rw (only s q) g.machine.sizes.start_in;
     right = λ s q. subst (Reachable (moving m next)) (sym (only s q)) (reachable_closed (moving m next)).first;
     flagged = λ i l. let z : i ≡ 0 = omega arith in
-        subst (λ x. flag_at (set (replicate STATES false) m.sizes.start true) (get_or (set (replicate STATES 0) 0 m.sizes.start) x 0) ≡ true) (sym z)
+        subst (λ x. flag_at (set (replicate STATES false) m.sizes.start true) x ≡ true) (sym (ap (λ x. get_or work x 0) z ∙ first))
         (set_true (replicate STATES false) m.sizes.start fits);
-    place = λ s q. record { at = 0; below = omega arith; is = sym (only s q) };
+    place = λ s q. record { at = 0; below = omega arith; is = first ∙ sym (only s q) };
     looked = λ i a l. absurd (not-suc-le-zero l);
   }
     where
+      first : get_or work 0 0 ≡ m.sizes.start
+      first = ap (λ (xs : List ℕ). get_or xs 0 0) e ∙ get_or-replicate {A = ℕ} STATES 0 m.sizes.start 0 (omega arith)
+
       fits : m.sizes.start < length (replicate {A = Bool} STATES false)
       fits = rw (length-replicate {A = Bool} STATES false) (le_trans g.machine.sizes.start_in most)
 
