@@ -15,18 +15,6 @@ byte_small : (b : Bool) → bool_byte b < 2
 byte_small true = omega arith
 byte_small false = omega arith
 
-pub nonzero_rem-result : goal.nonzero_rem-result
-nonzero_rem-result c = omega (arith, power_pos c.args.p)
-
-pub nonzero_div-result : goal.nonzero_div-result
-nonzero_div-result c = omega (arith, power_pos c.args.p)
-
-pub overflow_mul-result : goal.overflow_mul-result
-overflow_mul-result c = record { fits = omega (arith, div-le_self c.args.set c.power-low.result) }
-
-pub overflow_add-result : goal.overflow_add-result
-overflow_add-result c = record { fits = omega (arith, c.from.ensures, byte_small c.args.b, div-le_self c.args.set c.power-low.result) }
-
 pub overflow_mul-result-2 : goal.overflow_mul-result-2
 overflow_mul-result-2 c =
     let s : c.from.result < 2 = omega (arith, c.from.ensures, byte_small c.args.b) in
