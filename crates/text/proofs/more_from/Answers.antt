@@ -6,9 +6,6 @@ use Rattle.text.proofs.Parts.{tail_is, byte_is, end_here}
 use Rattle.text.proofs.Digits.{digit_no_tab, digit_some, more_over, more_here, more_bad, more_good}
 use Rattle.text.proofs.more_from.Goals as goal
 
-pub loop-i-init : goal.loop-i-init
-loop-i-init c = record { some = c.requires; says = ap (λ (j : ℕ). more_from c.args.limit c.args.line.now j c.args.first) (omega arith) }
-
 pub returns-then-byte-eq9 : goal.returns-then-byte-eq9
 returns-then-byte-eq9 c =
     let rest : c.unwrap_or-rest.result.now ≡ drop c.args.at c.args.line.now = rw c.unwrap_or-rest.ensures (tail_is c.args.line.now c.args.at c.get.result _ refl c.get.ensures.lookup.0) in
