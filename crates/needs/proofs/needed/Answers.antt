@@ -13,39 +13,6 @@ use Rattle.reach.proofs.Told.{found_says, refused_breaks}
 use Rattle.needs.proofs.Answering.{needed_rules, list_rules, needed_found, list_found, known_of}
 use Rattle.needs.proofs.needed.Goals as goal
 
-pub returns-in_err-unless-clause-value : goal.returns-in_err-unless-clause-value
-returns-in_err-unless-clause-value c =
-    let e : eqb (length c.args.outputs.now) OUTPUT_ENTRIES ≡ false = search rules in
-    let r : c.from_residual.result ≡ Err (refused_as Length 0) = search rules in
-    r ∙ sym (needed_lengths _ _ _ _ (lengths_outputs _ _ _ e))
-
-pub returns-in_err-unless-clause-list_after : goal.returns-in_err-unless-clause-list_after
-returns-in_err-unless-clause-list_after c =
-    let e : eqb (length c.args.outputs.now) OUTPUT_ENTRIES ≡ false = search rules in
-    sym (list_lengths _ _ _ _ (lengths_outputs _ _ _ e))
-
-pub returns-in_err-unless-2-clause-value : goal.returns-in_err-unless-2-clause-value
-returns-in_err-unless-2-clause-value c =
-    let e : eqb (length c.args.list.now) LIST_ENTRIES ≡ false = search rules in
-    let r : c.from_residual-in_err-unless-2.result ≡ Err (refused_as Length 0) = search rules in
-    r ∙ sym (needed_lengths _ _ _ _ (lengths_list _ _ _ e))
-
-pub returns-in_err-unless-2-clause-list_after : goal.returns-in_err-unless-2-clause-list_after
-returns-in_err-unless-2-clause-list_after c =
-    let e : eqb (length c.args.list.now) LIST_ENTRIES ≡ false = search rules in
-    sym (list_lengths _ _ _ _ (lengths_list _ _ _ e))
-
-pub returns-in_err-unless-3-clause-value : goal.returns-in_err-unless-3-clause-value
-returns-in_err-unless-3-clause-value c =
-    let e : eqb (length c.args.next.now) NEXT_ENTRIES ≡ false = search rules in
-    let r : c.from_residual-in_err-unless-3.result ≡ Err (refused_as Length 0) = search rules in
-    r ∙ sym (needed_lengths _ _ _ _ (lengths_next _ _ _ e))
-
-pub returns-in_err-unless-3-clause-list_after : goal.returns-in_err-unless-3-clause-list_after
-returns-in_err-unless-3-clause-list_after c =
-    let e : eqb (length c.args.next.now) NEXT_ENTRIES ≡ false = search rules in
-    sym (list_lengths _ _ _ _ (lengths_next _ _ _ e))
-
 pub returns-in_err-reached-clause-value : goal.returns-in_err-reached-clause-value
 returns-in_err-reached-clause-value c =
     let a : eqb (length c.args.outputs.now) OUTPUT_ENTRIES ≡ true = search rules in

@@ -6,15 +6,6 @@ use Rattle.laws.proofs.Range.{held_more}
 use Rattle.laws.proofs.Loops.{every_yes, every_no}
 use Rattle.needs.proofs.rounds.one_class.Goals as goal
 
-pub states-preserved-then-c-s-eq0 : goal.states-preserved-then-c-s-eq0
-states-preserved-then-c-s-eq0 c = held_more _ _ c.states.invariant (brings_of _ (λ i. eq-eqb _ _ c.if-c-s-eq0.true))
-
 pub returns-then-inside-s : goal.returns-then-inside-s
 unfolding brings
 returns-then-inside-s c = every_no _ _ _ c.states-test.true (rw (c.if-inside-s.true, ne_eqb _ _ c.if-c-s-eq0.false))
-
-pub states-preserved : goal.states-preserved
-states-preserved c = held_more _ _ c.states.invariant (brings_of _ (λ i. not_both i c.if-inside-s.false))
-
-pub returns : goal.returns
-returns c = every_yes _ _ c.states-test.false c.states.invariant
