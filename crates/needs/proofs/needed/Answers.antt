@@ -1,10 +1,8 @@
 -- `needs::needed` meets its contract.
-use Rattle.std.proofs.Common.{rules, ◌≡◌, sym, ◌∙◌, ap, length, false, true}
+use Rattle.std.proofs.Common.{rules, ◌≡◌, sym, ◌∙◌, ap, length, true}
 use Rattle.std.specs.Prelude.{eqb, Err}
 use Rattle.model.specs.Limits.{NEXT_ENTRIES, OUTPUT_ENTRIES, LIST_ENTRIES}
-use Rattle.model.specs.Refusal.{refused_as}
-use Rattle.model.specs.declared.refusal.Refusal.TheVariants.{Length}
-use Rattle.needs.proofs.Answering.{lengths_outputs, lengths_list, lengths_next, lengths_all, needed_lengths, list_lengths}
+use Rattle.needs.proofs.Answering.{lengths_all}
 use Rattle.std.specs.Prelude.{Ok, replicate}
 use Rattle.model.proofs.Good.{table_good}
 use borrow.Author.Tests.{eqb-true}

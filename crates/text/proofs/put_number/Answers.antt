@@ -1,5 +1,5 @@
 -- `text::put_number` meets its contract: the digits of what is left, with those that are set after them, are the value's. Assumes nothing.
-use Rattle.std.proofs.Common.{◌≡◌, ℕ, zero, suc, ◌+◌, ◌-◌, ◌/◌, ◌%◌, ◌^◌, ◌<◌, ◌≤◌, List, ◌∷◌, length, take, drop, set, sym, refl, ◌∙◌, append_assoc, append-nil, pow-suc, arith, length-drop, length-set, length-take-le, take_all, drop_at}
+use Rattle.std.proofs.Common.{◌≡◌, ℕ, zero, suc, ◌+◌, ◌-◌, ◌/◌, ◌%◌, ◌^◌, ◌<◌, ◌≤◌, List, ◌∷◌, length, take, drop, set, sym, ◌∙◌, append_assoc, pow-suc, arith, length-drop, length-set, length-take-le, take_all, drop_at}
 use lib.Seq.{set_split}
 use Rattle.text.specs.Number.{decimal}
 use Rattle.text.proofs.Digits.{digits_one, digits_more}

@@ -1,6 +1,5 @@
 -- `edits::bits::cut_of` meets its contract. Assumes nothing.
-use native.Mathlib.Omega.{arith}
-use Rattle.laws.proofs.Bits.{cut_is, cut_fits, power_pos}
+use Rattle.laws.proofs.Bits.{cut_is}
 use Rattle.edits.proofs.bits.cut_of.Goals as goal
 
 pub returns : goal.returns

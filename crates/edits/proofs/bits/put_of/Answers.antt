@@ -1,9 +1,8 @@
 -- `edits::bits::put_of` meets its contract. Assumes nothing.
 use Rattle.std.proofs.Common.{◌≡◌, refl, ◌∙◌, Bool, true, false, ◌<◌}
-use native.Mathlib.Nat.{div-le_self}
 use native.Mathlib.Omega.{arith}
 use mir.Val.{bool_byte}
-use Rattle.laws.proofs.Bits.{put_is, put_room, power_pos}
+use Rattle.laws.proofs.Bits.{put_is, put_room}
 use Rattle.edits.specs.Private.{one_if}
 use Rattle.edits.proofs.bits.put_of.Goals as goal
 

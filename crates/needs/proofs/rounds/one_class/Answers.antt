@@ -1,9 +1,7 @@
 -- `needs::rounds::one_class` meets its contract.
-use borrow.Author.Tests.{eq-eqb, ne_eqb}
+use borrow.Author.Tests.{ne_eqb}
 use Rattle.laws.specs.Choice.{brings}
-use Rattle.laws.proofs.Tests.{brings_of, not_both}
-use Rattle.laws.proofs.Range.{held_more}
-use Rattle.laws.proofs.Loops.{every_yes, every_no}
+use Rattle.laws.proofs.Loops.{every_no}
 use Rattle.needs.proofs.rounds.one_class.Goals as goal
 
 pub returns-then-inside-s : goal.returns-then-inside-s

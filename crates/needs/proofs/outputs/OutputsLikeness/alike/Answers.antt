@@ -1,6 +1,6 @@
 -- `needs::outputs::OutputsLikeness::alike` meets its contract.
 use Rattle.std.proofs.Common.{refl}
-use Rattle.needs.proofs.Owning.{seen_apart, seen_all}
+use Rattle.needs.proofs.Owning.{seen_apart}
 use Rattle.needs.proofs.outputs.OutputsLikeness.alike.Goals as goal
 
 pub returns-then-output : goal.returns-then-output

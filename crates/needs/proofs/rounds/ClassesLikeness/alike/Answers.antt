@@ -1,6 +1,6 @@
 -- `needs::rounds::ClassesLikeness::alike` meets its contract.
 use Rattle.needs.specs.Tables.{step_in, entry}
-use Rattle.needs.proofs.Agreeing.{agrees_apart, agrees_parts, agrees_all}
+use Rattle.needs.proofs.Agreeing.{agrees_parts}
 use Rattle.needs.proofs.rounds.ClassesLikeness.alike.Goals as goal
 
 pub returns-then-self-x : goal.returns-then-self-x
