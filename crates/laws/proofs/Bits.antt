@@ -2,7 +2,7 @@
 -- Assumes nothing.
 use mathlib.Core.Path.{◌≡◌, refl, sym, ap, ◌∙◌}
 use Prim.Native.Nat.{ℕ, zero, suc, ◌+◌, ◌-◌, ◌*◌, ◌/◌, ◌%◌, ◌^◌, ◌<◌, ◌≤◌}
-use native.Mathlib.Nat.{div-one, mod-one, pow-suc, not-suc-le-zero, le_of_suc-le-suc, div-div-eq-div-mul, one-le-pow, pow-le-pow_right, div-add-mod', mul-le-mul_right, mul_comm}
+use native.Mathlib.Nat.{div-one, mod-one, pow-suc, not-suc-le-zero, le_of_suc-le-suc, div-div-eq-div-mul, one-le-pow, pow-le-pow_right, mul_comm}
 use native.Mathlib.Numerals.{add-one}
 use native.Mathlib.Omega.{arith}
 use lib.Arith.{mod-mul}
@@ -60,12 +60,6 @@ power_small p n l = pow-le-pow_right (omega arith) l
 
 pub power_pos : (p : ℕ) → 0 < 2 ^ p
 power_pos p = one-le-pow p 2 (omega arith)
-
-pub cut_fits : (x m : ℕ) → x % m + x / m / 2 * m ≤ x
-cut_fits x m = omega (arith, div-add-mod' x m, mul-le-mul_right m (half_le (x / m)))
-  where
-    half_le : (q : ℕ) → q / 2 ≤ q
-    half_le q = omega arith
 
 pub gather_small : (k n : ℕ) (f : ℕ → ℕ) → ((j : ℕ) → f j < 2) → gather k n f < 2 ^ n
 unfolding gather

@@ -127,15 +127,4 @@ unfolding without
 without_on true e = rw e
 without_on false e = rw e
 
--- what `&&` of the code says of joined tests: its first flag f is the test a
-pub and_off : {f a : Bool} (b : Bool) → f ≡ a → f ≡ false → f ≡ both a b
-unfolding both
-and_off b e q = rw (← e, q)
-
-pub and_on : {f a x : Bool} (b : Bool) → f ≡ a → f ≡ true → x ≡ b → x ≡ both a b
-unfolding both
-and_on b e q r = rw (← e, q) r
-
-pub ruleset ands = (and_off, and_on)
-
 pub ruleset chain = (chain_no, chain_on, lt-ltb, le-ltb, le-leb, lt-leb, eq-eqb, ne_eqb)

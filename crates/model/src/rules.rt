@@ -1,5 +1,6 @@
 // The rules that a machine, a drawing and a table of next states keep to: else refusal 12.
 #![tactic(auto, using(laws::proofs::Loops::each), unfolding(laws::specs::Choice::both, laws::specs::Choice::choose, crate::specs::Refused::sized, crate::specs::Refused::sizes_fit, crate::specs::Refused::owners_fit, crate::specs::Refused::machine_fits, crate::specs::Refused::next_fits, crate::specs::Refused::ids_fit, crate::specs::Refused::row_fits, crate::specs::Refused::arrows_fit, crate::specs::Refused::selves_fit, crate::specs::Refused::drawing_fits, crate::specs::Refused::machine_table_fits, crate::specs::Refused::model_fits, crate::specs::Refused::model_table_fits))]
+
 ghost use Rattle.std.specs.Prelude.{◌≡◌, not, ◌+◌, ◌*◌, ◌^◌, ◌<◌, ◌≤◌, eqb, ltb, get_or, length};
 ghost use Rattle.laws.specs.Range.{every};
 ghost use Rattle.model.specs.Limits.{STATES, ACTIONS, BOXES};

@@ -8,14 +8,14 @@ use Prim.Native.Nat.{ℕ, ◌+◌, ◌<◌, ◌≤◌}
 use native.Mathlib.Omega.{arith}
 use native.Mathlib.Nat.{not-suc-le-zero, eq-or-lt_of_le}
 use borrow.Author.Count.{below_more}
-use borrow.Author.Tests.{eq-eqb, ne_eqb}
+use borrow.Author.Tests.{ne_eqb}
 use lib.Dec.{eqb}
 use lib.ListN.{length, set, length-set}
 use lib.Seq.{get_or-set_same, get_or-set_other}
 use Rattle.laws.specs.Choice.{both}
-use Rattle.laws.specs.Range.{Held, first}
+use Rattle.laws.specs.Range.{first}
 use Rattle.laws.proofs.Tests.{by_test, not_both, both_of, both_true, both_no}
-use Rattle.laws.proofs.Range.{every_held, every_not, first_at, first_none}
+use Rattle.laws.proofs.Range.{every_not, first_at, first_none}
 use Rattle.model.specs.Limits.{STATES}
 use Rattle.needs.specs.Tables.{entry}
 use Rattle.needs.specs.Classes.{lowest, agrees, Missed, Below, Led}
@@ -27,18 +27,10 @@ abbrev pub SameAfter : (ℕ → ℕ → ℕ) → (ℕ → ℕ) → ℕ → ℕ �
 SameAfter step c t s a = eqb (c (step t a)) (c (step s a))
 
 module _ (step : ℕ → ℕ → ℕ) (actions : ℕ) (c : ℕ → ℕ) (t s : ℕ) where
-  pub agrees_apart : (c t ≡ c s → ⊥) → false ≡ agrees step actions c t s
-  unfolding agrees both
-  agrees_apart n = rw (ne_eqb _ _ n)
-
   pub agrees_parts : {a x y : ℕ} → a < actions → x ≡ step t a → y ≡ step s a → (c x ≡ c y → ⊥) → false ≡ agrees step actions c t s
   unfolding agrees
   agrees_parts {a} l ex ey n =
       sym (both_no (eqb (c t) (c s)) (every_not actions (SameAfter step c t s) a l (ne_eqb _ _ (λ e. n (ap c ex ∙ e ∙ sym (ap c ey))))))
-
-  pub agrees_all : {a : ℕ} → c t ≡ c s → actions ≤ a → Held a (SameAfter step c t s) → true ≡ agrees step actions c t s
-  unfolding agrees
-  agrees_all e l h = sym (both_of (eq-eqb _ _ e) (every_held actions (SameAfter step c t s) l h))
 
 -- ---- the search for the first of a class
 module _ (inside : ℕ → Bool) (E : ℕ → ℕ → Bool) (s : ℕ) where

@@ -15,17 +15,17 @@ const SLOTS: usize = 256;
 
 #[derive(Clone, Copy)]
 pub(crate) struct Tables<'a> {
-    pub model: &'a Model,
-    pub next: &'a [u16; NEXT_ENTRIES],
-    pub views: &'a [u16; VIEW_ENTRIES],
-    pub low: &'a [u8; LOWS],
-    pub ghost good: { GoodTable model.now.machine next.now },
-    pub ghost lows: { Lows model.now.machine.sizes.states model.now.machine.sizes.boxes views.now low.now },
+    pub(crate) model: &'a Model,
+    pub(crate) next: &'a [u16; NEXT_ENTRIES],
+    pub(crate) views: &'a [u16; VIEW_ENTRIES],
+    pub(crate) low: &'a [u8; LOWS],
+    pub(crate) ghost good: { GoodTable model.now.machine next.now },
+    pub(crate) ghost lows: { Lows model.now.machine.sizes.states model.now.machine.sizes.boxes views.now low.now },
 }
 
 impl<'a> Tables<'a> {
     // What a table of next states or outputs has for the action at s.
-    pub fn at_state(&self, table: &[u16; NEXT_ENTRIES], a: usize, s: usize) -> usize
+    pub(crate) fn at_state(&self, table: &[u16; NEXT_ENTRIES], a: usize, s: usize) -> usize
         requires { (a < self.now.model.now.machine.sizes.actions) × (s < self.now.model.now.machine.sizes.states) }
         ensures { result ≡ get_or table.now (s * self.now.model.now.machine.sizes.actions + a) 0 }
     {
@@ -33,7 +33,7 @@ impl<'a> Tables<'a> {
     }
 
     // The state that the action leads to from s.
-    pub fn after(&self, a: usize, s: usize) -> usize
+    pub(crate) fn after(&self, a: usize, s: usize) -> usize
         requires { (a < self.now.model.now.machine.sizes.actions) × (s < self.now.model.now.machine.sizes.states) }
         ensures is_next { result ≡ get_or self.now.next.now (s * self.now.model.now.machine.sizes.actions + a) 0 }
         ensures in_table { result < self.now.model.now.machine.sizes.states }
@@ -61,7 +61,7 @@ impl<'a> Tables<'a> {
     }
 
     // Whether s and t look alike to o, the action's box, and the action's outputs there differ.
-    pub fn leaks(
+    pub(crate) fn leaks(
         &self,
         outputs: &[u16; OUTPUT_ENTRIES],
         o: usize,
@@ -77,7 +77,7 @@ impl<'a> Tables<'a> {
     }
 
     // Whether the action changes u's class of s.
-    pub fn moves(&self, u: usize, a: usize, s: usize) -> bool
+    pub(crate) fn moves(&self, u: usize, a: usize, s: usize) -> bool
         requires box_in { (u < self.now.model.now.machine.sizes.boxes) × (a < self.now.model.now.machine.sizes.actions) }
         requires state_in { s < self.now.model.now.machine.sizes.states }
         ensures { result ≡ moves_in self.now.model.now.machine.sizes.states self.now.model.now.machine.sizes.actions self.now.next.now self.now.views.now u a s }
@@ -86,7 +86,7 @@ impl<'a> Tables<'a> {
     }
 
     // Whether s and t look alike to u and to o, the action's box, and no longer to u after the action.
-    pub fn tears(&self, u: usize, o: usize, a: usize, s: usize, t: usize) -> bool
+    pub(crate) fn tears(&self, u: usize, o: usize, a: usize, s: usize, t: usize) -> bool
         requires box_in { (u < self.now.model.now.machine.sizes.boxes) × (o < self.now.model.now.machine.sizes.boxes) × (a < self.now.model.now.machine.sizes.actions) }
         requires states_in { (s < self.now.model.now.machine.sizes.states) × (t < self.now.model.now.machine.sizes.states) }
         ensures { result ≡ tears_in self.now.model.now.machine.sizes.states self.now.model.now.machine.sizes.actions self.now.next.now self.now.views.now u o a s t }
