@@ -12,4 +12,4 @@ pairs-init c = growing_none _
 pub pairs-preserved : goal.pairs-preserved
 pairs-preserved c =
     need_more _ _ _ _ _ c.pairs.invariant (omega arith) c.put_pair-at.ensures.0 c.put_pair-at.ensures.1
-        c.at.ensures c.id-source.ensures c.at-in-pairs.ensures c.id-target.ensures
+    c.at.ensures c.id-source.ensures c.at-in-pairs.ensures c.id-target.ensures
