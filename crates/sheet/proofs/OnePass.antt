@@ -100,11 +100,6 @@ word_begins t w rest at b e p n = go (eqb b 9) refl
 abbrev pub Plain : List ℕ → Type 0
 Plain f = All (λ x. 10 < x) f
 
-pub plain_at : (f : List ℕ) (i : ℕ) → Plain f → i < length f → 10 < get_or f i 0
-plain_at [] i p h = absurd (omega arith)
-plain_at (x ∷ xs) zero p h = p.0
-plain_at (x ∷ xs) (suc i) p h = plain_at xs i p.1 (omega arith)
-
 digit_plain : (limit v d w : ℕ) → digit limit v d ≡ Some w → 10 < d
 digit_plain limit v d w g = go (dec_lt d 48)
   where
