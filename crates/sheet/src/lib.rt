@@ -65,11 +65,10 @@ pub struct Place {
 // The lines of a text that ends in LF.
 fn read_lines(
     sheet: Sheet<'_>,
-    next: &mut [u16],
-    outputs: &mut [u16],
-    views: &mut [u16],
+    next: &mut [u16; model::NEXT_ENTRIES],
+    outputs: &mut [u16; model::OUTPUT_ENTRIES],
+    views: &mut [u16; model::VIEW_ENTRIES],
 ) -> Result<Model, Refused>
-    requires lengths { (length next.old ≡ NEXT_ENTRIES) × (length outputs.old ≡ OUTPUT_ENTRIES) × (length views.old ≡ VIEW_ENTRIES) }
     ensures { reading_of result (steps next.new outputs.new) views.new ≡ sheet_lines (steps next.old outputs.old) views.old (lines sheet.entry.text.now) }
 {
     let first = Cursor { at: 0, line: 1 };
@@ -84,9 +83,9 @@ fn read_lines(
 // A text over tables that are zero.
 fn read_text(
     text: &[u8],
-    next: &mut [u16],
-    outputs: &mut [u16],
-    views: &mut [u16],
+    next: &mut [u16; model::NEXT_ENTRIES],
+    outputs: &mut [u16; model::OUTPUT_ENTRIES],
+    views: &mut [u16; model::VIEW_ENTRIES],
 ) -> Result<Model, Refused>
     requires next_zero { next.old ≡ zeros NEXT_ENTRIES }
     requires outputs_zero { outputs.old ≡ zeros OUTPUT_ENTRIES }
@@ -105,8 +104,11 @@ fn read_text(
 }
 
 // The three tables made 0.
-fn zero_all(next: &mut [u16], outputs: &mut [u16], views: &mut [u16])
-    requires { (length next.old ≡ NEXT_ENTRIES) × (length outputs.old ≡ OUTPUT_ENTRIES) × (length views.old ≡ VIEW_ENTRIES) }
+fn zero_all(
+    next: &mut [u16; model::NEXT_ENTRIES],
+    outputs: &mut [u16; model::OUTPUT_ENTRIES],
+    views: &mut [u16; model::VIEW_ENTRIES],
+)
     ensures { (next.new ≡ zeros NEXT_ENTRIES) × (outputs.new ≡ zeros OUTPUT_ENTRIES) × (views.new ≡ zeros VIEW_ENTRIES) }
 {
     next.fill(0);
@@ -124,15 +126,15 @@ pub fn read(
 ) -> Result<Model, Refused>
     ensures { outcome result next.new outputs.new views.new ≡ read text.now next.old outputs.old views.old }
 {
-    if next.len() != model::NEXT_ENTRIES
-        || outputs.len() != model::OUTPUT_ENTRIES
-        || views.len() != model::VIEW_ENTRIES
-    {
-        return Err(Refused {
-            refusal: Refusal::Length,
-            line: 0,
-        });
-    }
+    let Some(next) = next.as_mut_array() else {
+        return Err(Refusal::Length.into());
+    };
+    let Some(outputs) = outputs.as_mut_array() else {
+        return Err(Refusal::Length.into());
+    };
+    let Some(views) = views.as_mut_array() else {
+        return Err(Refusal::Length.into());
+    };
     zero_all(next, outputs, views);
     let model = read_text(text, next, outputs, views);
     if model.is_err() {

@@ -94,11 +94,10 @@ fn read_goes(
     sheet: Sheet<'_>,
     first: Cursor,
     sizes: Sizes,
-    next: &mut [u16],
-    outputs: &mut [u16],
+    next: &mut [u16; model::NEXT_ENTRIES],
+    outputs: &mut [u16; model::OUTPUT_ENTRIES],
 ) -> Result<Cursor, Refused>
     requires sizes { GoodSizes sizes }
-    requires lengths { (length next.old ≡ NEXT_ENTRIES) × (length outputs.old ≡ OUTPUT_ENTRIES) }
     ensures { told result sheet.entry.text.now (steps next.new outputs.new) ≡ goes sizes.states sizes.actions (steps next.old outputs.old) (lines (drop first.at sheet.entry.text.now)) first.line }
 {
     let states = sizes.states;
@@ -184,10 +183,9 @@ fn read_views(
     first: Cursor,
     states: usize,
     ids: Ids<'_>,
-    views: &mut [u16],
+    views: &mut [u16; model::VIEW_ENTRIES],
 ) -> Result<Cursor, Refused>
     requires states { (0 < states) × (states ≤ STATES) }
-    requires room { length views.old ≡ VIEW_ENTRIES }
     ensures { told result sheet.entry.text.now views.new ≡ views_of ids.entry.ids.now states views.old (lines (drop first.at sheet.entry.text.now)) first.line }
 {
     let total = ids.ids.len() * states;
@@ -209,12 +207,11 @@ pub(crate) fn read_body(
     sheet: Sheet<'_>,
     second: Cursor,
     sizes: Sizes,
-    next: &mut [u16],
-    outputs: &mut [u16],
-    views: &mut [u16],
+    next: &mut [u16; model::NEXT_ENTRIES],
+    outputs: &mut [u16; model::OUTPUT_ENTRIES],
+    views: &mut [u16; model::VIEW_ENTRIES],
 ) -> Result<Model, Refused>
     requires sizes { GoodSizes sizes }
-    requires lengths { (length next.old ≡ NEXT_ENTRIES) × (length outputs.old ≡ OUTPUT_ENTRIES) × (length views.old ≡ VIEW_ENTRIES) }
     ensures { reading_of result (steps next.new outputs.new) views.new ≡ finish (parts sizes.states sizes.actions sizes.boxes (steps next.old outputs.old) views.old (lines (drop second.at sheet.entry.text.now)) second.line) (model_of sizes) }
 {
     let boxes = read_boxes(sheet, second, sizes.boxes)?;

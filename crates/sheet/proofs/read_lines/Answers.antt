@@ -10,8 +10,8 @@ use Rattle.sheet.proofs.read_lines.Goals as goal
 pub returns-in_err-taken : goal.returns-in_err-taken
 returns-in_err-taken c = let p = err_from_is_err_and c.from_residual.result c.from_residual.ensures.1 in rw (p.1, p.2) (first_bad c.args.sheet.ended _ _ _ (sym (taken_is (λ l. as_sizes (sheet_line l)) _ _ _ (λ l x k. search rules) c.take.ensures) ∙ c.in_err-taken.was))
 
-pub read_body-requires-clause-sizes : goal.read_body-requires-clause-sizes
-read_body-requires-clause-sizes c = (first_sizes c.args.sheet.text.now (sym (taken_is (λ l. as_sizes (sheet_line l)) _ _ _ (λ l x k. search rules) c.take.ensures) ∙ c.in_ok-taken.was))
+pub read_body-requires : goal.read_body-requires
+read_body-requires c = record { sizes = (first_sizes c.args.sheet.text.now (sym (taken_is (λ l. as_sizes (sheet_line l)) _ _ _ (λ l x k. search rules) c.take.ensures) ∙ c.in_ok-taken.was)) }
 
 pub returns : goal.returns
 returns c = c.read_body.ensures ∙ ((first_good c.args.sheet.ended _ _ (sym (taken_is (λ l. as_sizes (sheet_line l)) _ _ _ (λ l x k. search rules) c.take.ensures) ∙ c.in_ok-taken.was) refl))
