@@ -1,6 +1,7 @@
 // The arrows that a machine needs, whatever was drawn, and how long a run each box needs to tell apart all that it can.
 #![tactic(auto, using(laws::proofs::Loops::each), unfolding(laws::specs::Choice::both, laws::specs::Choice::choose, laws::specs::Choice::brings, crate::specs::Answered::lengths_fit, crate::specs::Answered::needed_of, crate::specs::Answered::list_of, crate::specs::Marks::wanted_in, crate::specs::Own::seen_by, crate::specs::Classes::agrees))]
 
+// Loops go by number here: a state, an action or a box is the number that several tables are read at (`s * actions + a`, `v * BOXES + u`).
 mod arrows;
 mod changes;
 mod likeness;

@@ -71,6 +71,7 @@ impl<'a> Likeness for Outputs<'a> {
 
     ghost laws = { λ o. seen_sorts o.own.list o.own.count o.table.now o.actions };
 
+    // by number: the definitions count the actions of the list
     fn alike(&self, t: usize, s: usize) -> bool {
         'actions: for i in 0..self.own.count {
             if self.output(t, i) != self.output(s, i) {

@@ -96,6 +96,7 @@ fn explore(machine: &Machine, next: &[u16]) -> Set
     ensures { Complete machine.now next.now (listed result) }
 {
     let mut list = Worklist::new(machine.sizes.start);
+    // not `while let`: between taking a state and the last of its actions no fact of the whole list holds
     'work: while list.done < list.entered {
         list.look(machine, next);
     }

@@ -48,6 +48,7 @@ fn read_boxes(
 {
     let mut ids = [0u32; model::BOXES];
     let mut cursor = first;
+    // k is the number of the entry, and tells which ids are known so far
     for k in 0..count {
         let known = &ids[0..k];
         let taken = take(sheet, cursor, |line| lines::box_line(line, known))?;
@@ -104,6 +105,7 @@ fn read_goes(
     let actions = sizes.actions;
     let total = states * actions;
     let mut cursor = first;
+    // k is the number of the entry, and tells the state and the action
     for k in 0..total {
         let state = k as u32 / actions as u32;
         let action = k as u32 % actions as u32;
