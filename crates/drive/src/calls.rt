@@ -1,7 +1,4 @@
 // For each public call: its request is taken apart, the call is made, and its answer is put.
-ghost use Rattle.std.specs.Prelude.{◌≡◌, length};
-ghost use Rattle.drive.specs.Limits.{TABLE_ENTRIES, LENT_BYTES};
-
 use crate::put::Answer;
 use crate::take::Request;
 

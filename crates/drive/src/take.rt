@@ -10,22 +10,6 @@ pub(crate) struct Request<'r> {
 }
 
 impl<'r> Request<'r> {
-    // The next bytes, so many.
-    fn part(&mut self, length: usize) -> Option<&'r [u8]> {
-        let (part, rest) = self.rest.split_at_checked(length)?;
-        self.rest = rest;
-        Some(part)
-    }
-
-    // A number of so many bytes, the lowest first.
-    fn number(&mut self, width: usize) -> Option<usize> {
-        let mut number = 0usize;
-        for &byte in self.part(width)?.iter().rev() {
-            number = number << 8 | usize::from(byte);
-        }
-        Some(number)
-    }
-
     pub(crate) fn n1(&mut self) -> Option<u8> {
         let (&first, rest) = self.rest.split_first()?;
         self.rest = rest;

@@ -23,31 +23,6 @@ pub first_position : (p : BoxRecord → Bool) (l : List BoxRecord) → first (le
 unfolding first choose
 first_position p = is_position_or_len (λ (l : List BoxRecord). first (length l) (λ k. p (at l k))) p refl (λ x l. by_test (p x) (λ e. rw e refl) (λ e. rw e (omega arith)))
 
--- ---- tests of the numbers below n
-range_more : (a n j : ℕ) → a + n ≡ j → range_with_len a (suc n) ≡ range_with_len a n ++ j ∷ []
-range_more a zero j e = let s : a ≡ j = omega arith in ap (λ (m : ℕ). m ∷ []) s
-range_more a (suc n) j e = ap (λ (xs : List ℕ). a ∷ xs) (range_more (a + 1) n j (omega arith))
-
-pub any_range : (n : ℕ) (p : ℕ → Bool) → list_any p (range_with_len 0 n) ≡ some n p
-unfolding some either
-any_range zero p = refl
-any_range (suc n) p = ap (list_any p) (range_more 0 n n (omega arith)) ∙ list_any-append p (range_with_len 0 n) (n ∷ []) ∙ rw (any_range n p) (or_is (some n p) (p n))
-  where
-    or_is : (a b : Bool) → (a || (b || false)) ≡ either a b
-    or_is true b = refl
-    or_is false true = refl
-    or_is false false = refl
-
-pub all_range : (n : ℕ) (p : ℕ → Bool) → list_all p (range_with_len 0 n) ≡ every n p
-unfolding every both
-all_range zero p = refl
-all_range (suc n) p = ap (list_all p) (range_more 0 n n (omega arith)) ∙ list_all-append p (range_with_len 0 n) (n ∷ []) ∙ rw (all_range n p) (and_is (every n p) (p n))
-  where
-    and_is : (a b : Bool) → (a && (b && true)) ≡ both a b
-    and_is false b = refl
-    and_is true true = refl
-    and_is true false = refl
-
 -- ---- an array that a closure makes: each call leaves the closure as it was, and gives what h says
 pub made_from : {F B : Type 0} (g : Mut F (ℕ × Unit {0}) B) (d : B) (n : ℕ) (h : ℕ → B) (f : F) (ys : List B) → IsFromFnResult g f ys n
     → ((i : ℕ) (y : B) (q : F) → i < n → Called g f (i, tt) y q → (q ≡ f) × (y ≡ h i)) → ys ≡ tabulate n h

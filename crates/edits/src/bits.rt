@@ -3,6 +3,7 @@ ghost use Rattle.std.specs.Prelude.{◌≡◌, ◌+◌, ◌-◌, ◌<◌, ◌^�
 ghost use Rattle.laws.specs.Bits.{bit, cut, put};
 ghost use Rattle.edits.specs.Private.{one_if};
 
+// A word's own width, where `model` wants a wider one for its own.
 fn power(p: usize) -> u32
     requires { p < 32 }
     ensures { result ≡ 2 ^ p }

@@ -2,7 +2,7 @@
 -- Assumes nothing.
 use mathlib.Core.Path.{◌≡◌, refl, sym, ap, ◌∙◌}
 use Prim.Native.Nat.{ℕ, zero, suc, ◌+◌, ◌-◌, ◌*◌, ◌/◌, ◌%◌, ◌^◌, ◌<◌, ◌≤◌}
-use native.Mathlib.Nat.{div-one, mod-one, pow-suc, not-suc-le-zero, le_of_suc-le-suc, div-div-eq-div-mul, one-le-pow, pow-le-pow_right, div-add-mod', mul-le-mul_right, mul_comm}
+use native.Mathlib.Nat.{div-one, mod-one, pow-suc, not-suc-le-zero, le_of_suc-le-suc, div-div-eq-div-mul, one-le-pow, pow-le-pow_right, mul_comm}
 use native.Mathlib.Numerals.{add-one}
 use native.Mathlib.Omega.{arith}
 use lib.Arith.{mod-mul}
@@ -61,27 +61,10 @@ power_small p n l = pow-le-pow_right (omega arith) l
 pub power_pos : (p : ℕ) → 0 < 2 ^ p
 power_pos p = one-le-pow p 2 (omega arith)
 
-pub cut_fits : (x m : ℕ) → x % m + x / m / 2 * m ≤ x
-cut_fits x m = omega (arith, div-add-mod' x m, mul-le-mul_right m (half_le (x / m)))
-  where
-    half_le : (q : ℕ) → q / 2 ≤ q
-    half_le q = omega arith
-
 pub gather_small : (k n : ℕ) (f : ℕ → ℕ) → ((j : ℕ) → f j < 2) → gather k n f < 2 ^ n
 unfolding gather
 gather_small k zero f s = omega arith
 gather_small k (suc n) f s = rw (pow-suc 2 n) (omega (arith, gather_small (k + 1) n f s, s k))
-
--- one place more, in front
-pub gather_more : (n k : ℕ) (f : ℕ → ℕ) → 0 < k → k ≤ n → f (k - 1) + 2 * gather k (n - k) f ≡ gather (k - 1) (n - (k - 1)) f
-unfolding gather
-gather_more n k f pos le = rw (more n k pos le) (ap (λ (m : ℕ). f (k - 1) + 2 * gather m (n - k) f) (same k pos))
-  where
-    more : (n k : ℕ) → 0 < k → k ≤ n → n - (k - 1) ≡ suc (n - k)
-    more n k pos le = omega arith
-
-    same : (k : ℕ) → 0 < k → k ≡ k - 1 + 1
-    same k pos = omega arith
 
 -- ---- what the edits do to the bits
 pub cut_none : (p : ℕ) → cut p 0 ≡ 0

@@ -6,12 +6,10 @@ pub mod Range
 pub mod Count
 pub mod Lists
 pub mod Cells
-pub mod Filled
-pub mod Copied
 pub mod Loops
 pub mod Tables
 pub mod Sets
 pub mod Bits
 pub mod Chosen
 pub mod Firsts
-pub mod Grown
+pub mod Ranges

@@ -6,7 +6,7 @@ use Prim.Native.Nat.{ℕ, ◌<◌, ◌≤◌}
 use native.Mathlib.Omega.{arith}
 use lib.Dec.{eqb, ltb, leb}
 use borrow.Author.Tests.{not-true, lt-ltb, le-ltb, le-leb, lt-leb, eq-eqb, ne_eqb}
-use Rattle.laws.specs.Choice.{both, brings}
+use Rattle.laws.specs.Choice.{both}
 use Rattle.laws.specs.Range.{every, some, Held}
 use Rattle.laws.proofs.Tests.{told, both_of, both_no}
 use Rattle.laws.proofs.Range.{every_held, every_not, some_of, some_none, sweep_every}
@@ -48,15 +48,6 @@ read_same x y e f h = rw (eq-eqb x y (omega arith))
 pub both_not : {a : Bool} (b : Bool) → a ≡ false → both a b ≡ false
 unfolding both
 both_not b e = rw e
-
--- an answer that a test brings
-pub brings_on : {a x : Bool} (b : Bool) → a ≡ true → x ≡ b → x ≡ brings a b
-unfolding brings
-brings_on b e q = rw e q
-
-pub brings_off : {a : Bool} (b : Bool) → a ≡ false → true ≡ brings a b
-unfolding brings
-brings_off b e = rw e
 
 -- what `search` is handed at the goals of such a function
 pub ruleset each =

@@ -138,14 +138,6 @@ pack_small test (suc n) v =
     let h : pack test (v + 1) n < 2 ^ n = pack_small test n (v + 1) in
     by_test (test v) (λ e. rw e (omega (arith, pow-suc 2 n))) (λ e. rw e (omega (arith, pow-suc 2 n)))
 
--- packing the members of a set gives the set, and tests that agree give one set
-pub pack_same : (f g : ℕ → Bool) (n v : ℕ) → ((i : ℕ) → i < n → f (v + i) ≡ g (v + i)) → pack f v n ≡ pack g v n
-unfolding pack
-pack_same f g zero v h = refl
-pack_same f g (suc n) v h =
-    let a : f v ≡ g v = ap f (omega arith) ∙ h 0 (omega arith) ∙ ap g (omega arith) in
-    rw (a, pack_same f g n (v + 1) (λ i l. ap f (omega arith) ∙ h (suc i) (omega arith) ∙ ap g (omega arith)))
-
 has_first : (set : ℕ) → has set 0 ≡ eqb (set % 2) 1
 unfolding has
 has_first set = rw div-one

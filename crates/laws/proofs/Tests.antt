@@ -19,9 +19,6 @@ pub agree : (a b : Bool) → (a ≡ true → b ≡ true) → (b ≡ true → a �
 agree true b f g = sym (f refl)
 agree false b f g = by_test b (λ e. not_both (g e) refl) (λ e. sym e)
 
-pub true_of : {b : Bool} → (b ≡ false → ⊥) → b ≡ true
-true_of {b} h = by_test b (λ e. e) (λ e. absurd (h e))
-
 pub false_of : {b : Bool} → (b ≡ true → ⊥) → b ≡ false
 false_of {b} h = by_test b (λ e. absurd (h e)) (λ e. e)
 
@@ -77,11 +74,6 @@ brings_false true b h = (refl, h)
 brings_false false b h = not_both refl h
 
 -- ---- without
-pub without_false : (a b : Bool) → without a b ≡ false → a ≡ true → b ≡ true
-unfolding without
-without_false true true e h = refl
-without_false true false e h = not_both refl e
-without_false false b e h = not_both h refl
 
 pub without_none : (a b : Bool) → (a ≡ true → b ≡ true) → without a b ≡ false
 unfolding without
@@ -119,9 +111,6 @@ choose_no x e q = rw e q
 pub told : {f : Bool} (b t : Bool) → f ≡ b → f ≡ t → b ≡ t
 told b t e q = sym e ∙ q
 
-pub untold : {v : Bool} (b t : Bool) → v ≡ t → b ≡ t → v ≡ b
-untold b t e q = e ∙ sym q
-
 -- what a flag of the code says of joined tests
 pub not_yes : {b : Bool} → b ≡ true → false ≡ not b
 not_yes e = rw e
@@ -133,25 +122,9 @@ pub without_not : {a : Bool} (b : Bool) → a ≡ false → false ≡ without a 
 unfolding without
 without_not b e = rw e
 
-pub without_met : (a : Bool) {b : Bool} → b ≡ true → false ≡ without a b
-unfolding without
-without_met true e = rw e
-without_met false e = refl
-
 pub without_on : {a : Bool} (b : Bool) → a ≡ true → not b ≡ without a b
 unfolding without
 without_on true e = rw e
 without_on false e = rw e
-
--- what `&&` of the code says of joined tests: its first flag f is the test a
-pub and_off : {f a : Bool} (b : Bool) → f ≡ a → f ≡ false → f ≡ both a b
-unfolding both
-and_off b e q = rw (← e, q)
-
-pub and_on : {f a x : Bool} (b : Bool) → f ≡ a → f ≡ true → x ≡ b → x ≡ both a b
-unfolding both
-and_on b e q r = rw (← e, q) r
-
-pub ruleset ands = (and_off, and_on)
 
 pub ruleset chain = (chain_no, chain_on, lt-ltb, le-ltb, le-leb, lt-leb, eq-eqb, ne_eqb)

@@ -4,5 +4,4 @@ pub mod Range
 pub mod Lists
 pub mod Order
 pub mod Sets
-pub mod Filled
 pub mod Bits

@@ -3,17 +3,12 @@
 use mathlib.Core.List.{List}
 use Prim.Native.Nat.{ℕ, ◌<◌}
 use Rattle.noninterference.specs.Machine.{Owned, Closed}
-use Rattle.noninterference.specs.Secure.{Reflexive}
-use Rattle.model.specs.Denoted.{machine_of, policy_of}
-use Rattle.model.specs.Good.{GoodMachine, GoodTable, GoodDrawing}
+use Rattle.model.specs.Denoted.{machine_of}
+use Rattle.model.specs.Good.{GoodMachine, GoodTable}
 use Rattle.model.specs.declared.Machine.{Machine}
-use Rattle.model.specs.declared.Model.{Model}
 
 pub owned : (m : Machine) (next outputs : List ℕ) → GoodMachine m → Owned (machine_of m next outputs)
 owned m next outputs g = record { owners = g.owner_in; watchers = g.owner_in }
 
 pub closed : (m : Machine) (next outputs : List ℕ) → GoodTable m next → Closed (machine_of m next outputs) (λ s. s < m.sizes.states)
 closed m next outputs g = record { first = g.machine.sizes.start_in; next = λ s a ls la. g.next_in s a ls la }
-
-pub reflexive : (m : Model) (next outputs : List ℕ) → GoodDrawing m → Reflexive (machine_of m.machine next outputs) (policy_of m)
-reflexive m next outputs g = g.self

@@ -1,36 +1,18 @@
 -- The highest of some entries, and what it says of tables that stand row after row.
 -- Assumes nothing.
-use mathlib.Core.Path.{◌≡◌, sym, ap, subst, ◌∙◌}
+use mathlib.Core.Path.{◌≡◌, sym, ap, ◌∙◌}
 use mathlib.Core.Bool.{true, false}
-use mathlib.Core.Logic.{by_cases}
 use mathlib.Core.List.{List}
 use Prim.Native.Nat.{ℕ, zero, suc, ◌+◌, ◌*◌, ◌<◌, ◌≤◌, ◌-◌}
-use native.Mathlib.Nat.{not-suc-le-zero, suc-mul, zero-mul}
-use native.Mathlib.Decide.{ℕ_discrete}
+use native.Mathlib.Nat.{suc-mul, zero-mul}
 use native.Mathlib.Omega.{arith}
-use borrow.Author.Count.{below_more}
 use borrow.Author.Tests.{lt-ltb, le-ltb}
 use lib.Dec.{ltb}
 use lib.ListN.{get_or}
 use Rattle.laws.specs.Range.{every}
 use Rattle.laws.proofs.Range.{every_of, every_not, by_order}
 use Rattle.laws.proofs.Cells.{cell}
-use Rattle.model.specs.Highest.{Higher, Highest}
-
-pub highest_none : (table : List ℕ) → Highest 0 table 0
-highest_none table = record { upto = λ i l. absurd (not-suc-le-zero l); found = λ l. absurd (not-suc-le-zero l) }
-
-pub highest_more : {n : ℕ} {table : List ℕ} {top x r : ℕ} → Highest n table top → x ≡ get_or table n 0 → Higher top x r → Highest (n + 1) table r
-highest_more {n} {table} {top} {x} {r} h e w = record {
-  upto = below_more (λ i. get_or table i 0 ≤ r) n (λ i l. let k = h.upto i l in omega (arith, w.left)) (omega (arith, w.right));
-  found = λ l. by_cases (ℕ_discrete r x) (λ q. (n, omega arith, sym e ∙ sym q)) (λ q. up (w.one q) l);
-}
-  where
-    up : r ≡ top → 0 < r → (i : ℕ) × (i < n + 1) × (get_or table i 0 ≡ r)
-    up q l = let k = h.found (omega arith) in let m : k.0 < n = k.1 in (k.0, omega arith, k.2 ∙ sym q)
-
-pub highest_all : {n m : ℕ} {table : List ℕ} {top : ℕ} → Highest n table top → n ≡ m → Highest m table top
-highest_all {table = table} {top = top} h e = subst (λ x. Highest x table top) e h
+use Rattle.model.specs.Highest.{Highest}
 
 -- the row and the column of an entry
 record Place (n m i : ℕ) : Type 0 where

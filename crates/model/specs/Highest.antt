@@ -1,12 +1,6 @@
 -- The highest of some entries.
 use Rattle.std.specs.Prelude.{List, ◌≡◌, ℕ, ◌<◌, ◌≤◌, get_or}
 
--- the higher of two
-pub record Higher (x y r : ℕ) : Type 0 where
-  pub left : x ≤ r
-  pub right : y ≤ r
-  pub one : (r ≡ y → ⊥) → r ≡ x
-
 -- the highest of the first n entries, 0 where there is none
 pub record Highest (n : ℕ) (table : List ℕ) (top : ℕ) : Type 0 where
   pub upto : (i : ℕ) → i < n → get_or table i 0 ≤ top

@@ -1,4 +1,6 @@
 // The rules that a machine, a drawing and a table of next states keep to: else refusal 12.
+#![tactic(auto, using(laws::proofs::Loops::each), unfolding(laws::specs::Choice::both, laws::specs::Choice::choose, crate::specs::Refused::sized, crate::specs::Refused::sizes_fit, crate::specs::Refused::owners_fit, crate::specs::Refused::machine_fits, crate::specs::Refused::next_fits, crate::specs::Refused::ids_fit, crate::specs::Refused::row_fits, crate::specs::Refused::arrows_fit, crate::specs::Refused::selves_fit, crate::specs::Refused::drawing_fits, crate::specs::Refused::machine_table_fits, crate::specs::Refused::model_fits, crate::specs::Refused::model_table_fits))]
+
 ghost use Rattle.std.specs.Prelude.{◌≡◌, not, ◌+◌, ◌*◌, ◌^◌, ◌<◌, ◌≤◌, eqb, ltb, get_or, length};
 ghost use Rattle.laws.specs.Range.{every};
 ghost use Rattle.model.specs.Limits.{STATES, ACTIONS, BOXES};
@@ -26,12 +28,7 @@ fn sizes_fit(machine: &Machine) -> bool
 fn owners_fit(machine: &Machine) -> bool
     ensures { result ≡ owners_fit machine.now }
 {
-    'actions: for a in 0..machine.sizes.actions {
-        if machine.sizes.boxes <= machine.owner(a) {
-            return false;
-        }
-    }
-    true
+    (0..machine.sizes.actions).all(|a| machine.owner(a) < machine.sizes.boxes)
 }
 
 fn machine_fits(machine: &Machine) -> bool
@@ -53,12 +50,7 @@ fn row_fits(next: &[u16], base: usize, actions: usize, states: usize) -> bool
     requires { (base ≤ STATES * ACTIONS) × (actions ≤ ACTIONS) }
     ensures { result ≡ every actions (λ a. ltb (get_or next.now (base + a) 0) states) }
 {
-    'actions: for a in 0..actions {
-        if states <= at(next, base + a) {
-            return false;
-        }
-    }
-    true
+    (0..actions).all(|a| at(next, base + a) < states)
 }
 
 fn rows_fit(machine: &Machine, next: &[u16]) -> bool
@@ -67,12 +59,7 @@ fn rows_fit(machine: &Machine, next: &[u16]) -> bool
 {
     let states = machine.sizes.states;
     let actions = machine.sizes.actions;
-    'states: for s in 0..states {
-        if !row_fits(next, s * actions, actions, states) {
-            return false;
-        }
-    }
-    true
+    (0..states).all(|s| row_fits(next, s * actions, actions, states))
 }
 
 // The same, by the highest of them where the table is long enough.
@@ -92,26 +79,13 @@ fn next_fits(machine: &Machine, next: &[u16]) -> bool
 fn id_is_new(model: &Model, position: usize) -> bool
     ensures { result ≡ every position (λ v. not (eqb (get_or model.now.ids v 0) (get_or model.now.ids position 0))) }
 {
-    'earlier: for v in 0..position {
-        if model.id(v) == model.id(position) {
-            return false;
-        }
-    }
-    true
+    (0..position).all(|v| model.id(v) != model.id(position))
 }
 
 fn ids_fit(model: &Model) -> bool
     ensures { result ≡ ids_fit model.now }
 {
-    'boxes: for u in 0..model.machine.sizes.boxes {
-        if LARGEST_ID < model.id(u) {
-            return false;
-        }
-        if !id_is_new(model, u) {
-            return false;
-        }
-    }
-    true
+    (0..model.machine.sizes.boxes).all(|u| model.id(u) <= LARGEST_ID && id_is_new(model, u))
 }
 
 fn power(n: usize) -> u64
@@ -149,12 +123,7 @@ fn arrows_fit(model: &Model) -> bool
 fn selves_fit(model: &Model) -> bool
     ensures { result ≡ selves_fit model.now }
 {
-    'boxes: for u in 0..model.machine.sizes.boxes {
-        if !model.arrow(u, u) {
-            return false;
-        }
-    }
-    true
+    (0..model.machine.sizes.boxes).all(|u| model.arrow(u, u))
 }
 
 fn drawing_fits(model: &Model) -> bool

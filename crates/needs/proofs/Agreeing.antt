@@ -4,59 +4,36 @@ use mathlib.Core.Path.{◌≡◌, sym, ◌∙◌, ap}
 use mathlib.Core.Logic.{⊎_elim}
 use mathlib.Core.Bool.{Bool, true, false}
 use mathlib.Core.List.{List}
-use Prim.Native.Nat.{ℕ, ◌+◌, ◌*◌, ◌<◌, ◌≤◌}
+use Prim.Native.Nat.{ℕ, ◌+◌, ◌<◌, ◌≤◌}
 use native.Mathlib.Omega.{arith}
 use native.Mathlib.Nat.{not-suc-le-zero, eq-or-lt_of_le}
 use borrow.Author.Count.{below_more}
-use borrow.Author.Tests.{eq-eqb, ne_eqb, eqb-true}
+use borrow.Author.Tests.{ne_eqb}
 use lib.Dec.{eqb}
 use lib.ListN.{length, set, length-set}
 use lib.Seq.{get_or-set_same, get_or-set_other}
 use Rattle.laws.specs.Choice.{both}
-use Rattle.laws.specs.Range.{Held, first}
+use Rattle.laws.specs.Range.{first}
 use Rattle.laws.proofs.Tests.{by_test, not_both, both_of, both_true, both_no}
-use Rattle.laws.proofs.Range.{every_at, every_of, every_held, every_not, held_more, first_at, first_none}
-use Rattle.laws.proofs.Cells.{cell, row}
-use Rattle.model.specs.Limits.{STATES, ACTIONS, NEXT_ENTRIES, OUTPUT_ENTRIES}
-use Rattle.needs.specs.Tables.{entry, Steps}
+use Rattle.laws.proofs.Range.{every_not, first_at, first_none}
+use Rattle.model.specs.Limits.{STATES}
+use Rattle.needs.specs.Tables.{entry}
 use Rattle.needs.specs.Classes.{lowest, agrees, Missed, Below, Led}
 use Rattle.needs.specs.Laws.{agrees_now}
 use Rattle.needs.proofs.Classes.{lowest_le, lowest_holds}
-
--- ---- the cells of the tables
-module _ {states actions : ℕ} {next : List ℕ} (w : Steps states actions next) where
-  pub step_cell : {s a : ℕ} → s < states → a < actions → s * actions + a < NEXT_ENTRIES
-  step_cell ls la = cell STATES ACTIONS ls w.states_most la w.actions_most
-
-  pub step_row : {s : ℕ} → s < states → s * actions ≤ NEXT_ENTRIES
-  step_row ls = row STATES ACTIONS ls w.states_most w.actions_most
 
 -- ---- two states agree
 abbrev pub SameAfter : (ℕ → ℕ → ℕ) → (ℕ → ℕ) → ℕ → ℕ → ℕ → Bool
 SameAfter step c t s a = eqb (c (step t a)) (c (step s a))
 
 module _ (step : ℕ → ℕ → ℕ) (actions : ℕ) (c : ℕ → ℕ) (t s : ℕ) where
-  pub agrees_apart : (c t ≡ c s → ⊥) → false ≡ agrees step actions c t s
-  unfolding agrees both
-  agrees_apart n = rw (ne_eqb _ _ n)
-
   pub agrees_parts : {a x y : ℕ} → a < actions → x ≡ step t a → y ≡ step s a → (c x ≡ c y → ⊥) → false ≡ agrees step actions c t s
   unfolding agrees
   agrees_parts {a} l ex ey n =
       sym (both_no (eqb (c t) (c s)) (every_not actions (SameAfter step c t s) a l (ne_eqb _ _ (λ e. n (ap c ex ∙ e ∙ sym (ap c ey))))))
 
-  pub agrees_all : {a : ℕ} → c t ≡ c s → actions ≤ a → Held a (SameAfter step c t s) → true ≡ agrees step actions c t s
-  unfolding agrees
-  agrees_all e l h = sym (both_of (eq-eqb _ _ e) (every_held actions (SameAfter step c t s) l h))
-
-  pub agrees_more : {a x y : ℕ} → Held a (SameAfter step c t s) → x ≡ step t a → y ≡ step s a → c x ≡ c y → Held (a + 1) (SameAfter step c t s)
-  agrees_more {a} h ex ey e = held_more (SameAfter step c t s) a h (eq-eqb _ _ (sym (ap c ex) ∙ e ∙ ap c ey))
-
 -- ---- the search for the first of a class
 module _ (inside : ℕ → Bool) (E : ℕ → ℕ → Bool) (s : ℕ) where
-  pub missed_none : Missed inside E s 0
-  missed_none = record { none = λ j l. absurd (not-suc-le-zero l) }
-
   pub missed_more : {t : ℕ} → Missed inside E s t → both (inside t) (E t s) ≡ false → Missed inside E s (t + 1)
   missed_more {t} h e = record { none = below_more (λ j. both (inside j) (E j s) ≡ false) t h.none e }
 
@@ -109,15 +86,7 @@ module _ (inside : ℕ → Bool) (E : ℕ → ℕ → Bool) where
         (get_or-set_same d s v 0 (omega (arith, h.long)) ∙ e);
   }
 
-  pub led_all : {d : List ℕ} {n : ℕ} (states : ℕ) → Led inside E d n → states ≤ n → Led inside E d states
-  led_all states h l = record { long = h.long; each = λ s p. h.each s (omega arith) }
-
   pub led_below : {d : List ℕ} {n : ℕ} → Led inside E d n → Below n d
   led_below {d} h = record { upto = λ s l. rw (h.each s l) (lowest_le inside E s) }
 
 -- ---- the outputs of a box's actions
-pub output_cell : {actions s a : ℕ} → actions ≤ ACTIONS → s < STATES → a < actions → s * actions + a < OUTPUT_ENTRIES
-output_cell {actions} l ls la = cell STATES ACTIONS ls (omega arith) la l
-
-pub output_row : {actions s : ℕ} → actions ≤ ACTIONS → s < STATES → s * actions ≤ OUTPUT_ENTRIES
-output_row l ls = row STATES ACTIONS ls (omega arith) l

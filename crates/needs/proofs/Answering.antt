@@ -3,17 +3,15 @@
 use mathlib.Core.Path.{◌≡◌, refl, sym, ◌∙◌, ap, ap₂, subst}
 use mathlib.Core.Bool.{Bool, true, false}
 use mathlib.Core.List.{List, [], ◌∷◌, ◌++◌}
-use Prim.Native.Nat.{ℕ, zero, suc, ◌+◌, ◌<◌, ◌≤◌}
-use native.Mathlib.Nat.{not-suc-le-zero}
+use Prim.Native.Nat.{ℕ, zero, suc, ◌<◌, ◌≤◌}
 use native.Mathlib.Omega.{arith}
-use borrow.Author.Count.{below_more}
-use borrow.Author.Tests.{eq-eqb, ne_eqb, ltb-true, ltb-false}
+use borrow.Author.Tests.{ltb-true, ltb-false}
 use lib.Dec.{eqb, ltb}
-use lib.ListN.{length, set, length-set, replicate}
-use lib.Seq.{get_or-set_same, get_or-set_other, ext_get_or}
-use Rattle.laws.specs.Choice.{both, choose}
+use lib.ListN.{length, set, replicate}
+use lib.Seq.{ext_get_or}
+use Rattle.laws.specs.Choice.{choose}
 use Rattle.laws.specs.Range.{count}
-use Rattle.laws.proofs.Tests.{by_test, agree, both_of, both_no, false_of}
+use Rattle.laws.proofs.Tests.{by_test, agree, both_of, false_of}
 use Rattle.noninterference.specs.Machine as noninterference
 use Rattle.noninterference.specs.Machine.{Closed}
 use Rattle.noninterference.specs.Reached.{Reach, reached}
@@ -38,7 +36,7 @@ use Rattle.needs.specs.Listed.{padded, Written}
 use Rattle.needs.specs.Answered.{told, depths_of, found_in, lengths_fit, needed_of, list_of}
 use Rattle.std.specs.Prelude.{Ok, Err}
 use Rattle.model.specs.Refusal.{refused_as}
-use Rattle.model.specs.declared.refusal.Refusal.TheVariants.{Length, Rules}
+use Rattle.model.specs.declared.refusal.Refusal.TheVariants.{Rules}
 
 -- ---- a copy, flag by flag
 pub record CopiedTo (flags from : List Bool) (n : ℕ) : Type 0 where
@@ -46,17 +44,6 @@ pub record CopiedTo (flags from : List Bool) (n : ℕ) : Type 0 where
   pub each : (s : ℕ) → s < n → flag_at flags s ≡ flag_at from s
 
 module _ {from : List Bool} where
-  pub copied_none : {flags : List Bool} → length flags ≡ STATES → CopiedTo flags from 0
-  copied_none e = record { long = e; each = λ s l. absurd (not-suc-le-zero l) }
-
-  pub copied_more : {flags : List Bool} {n : ℕ} {b : Bool} → CopiedTo flags from n → n < STATES → b ≡ flag_at from n → CopiedTo (set flags n b) from (n + 1)
-  copied_more {flags} {n} {b} h l e = record {
-    long = length-set flags n b ∙ h.long;
-    each = below_more (λ s. flag_at (set flags n b) s ≡ flag_at from s) n
-        (λ s k. get_or-set_other flags n s b false (λ q. absurd (omega arith)) ∙ h.each s k)
-        (get_or-set_same flags n b false (omega (arith, h.long)) ∙ e);
-  }
-
   pub copied_all : {flags : List Bool} {n : ℕ} → CopiedTo flags from n → STATES ≤ n → length from ≡ STATES → flags ≡ from
   copied_all {flags} h l e = ext_get_or false flags from (h.long ∙ sym e) (λ s k. h.each s (omega (arith, h.long)))
 
@@ -129,14 +116,6 @@ module _ (m : Machine) (next outputs : List ℕ) (g : GoodTable m next) (set : S
       reachable = z ∙ size_same
 
 module _ (m : Machine) (next outputs list : List ℕ) where
-  pub needed_lengths : lengths_fit next outputs list ≡ false → needed_of m next outputs list ≡ Err (refused_as Length 0)
-  unfolding needed_of choose
-  needed_lengths e = rw e refl
-
-  pub list_lengths : lengths_fit next outputs list ≡ false → list_of m next outputs list ≡ list
-  unfolding list_of choose
-  list_lengths e = rw e refl
-
   pub needed_rules : lengths_fit next outputs list ≡ true → machine_table_fits m next ≡ false → needed_of m next outputs list ≡ Err (refused_as Rules 0)
   unfolding needed_of choose
   needed_rules e f = rw (e, f) refl
@@ -155,18 +134,6 @@ module _ (m : Machine) (next outputs list : List ℕ) where
 
 -- which length is wrong
 module _ (next outputs list : List ℕ) where
-  pub lengths_outputs : eqb (length outputs) OUTPUT_ENTRIES ≡ false → lengths_fit next outputs list ≡ false
-  unfolding lengths_fit both
-  lengths_outputs e = rw e
-
-  pub lengths_list : eqb (length list) LIST_ENTRIES ≡ false → lengths_fit next outputs list ≡ false
-  unfolding lengths_fit both
-  lengths_list e = both_no (eqb (length outputs) OUTPUT_ENTRIES) (rw e)
-
-  pub lengths_next : eqb (length next) NEXT_ENTRIES ≡ false → lengths_fit next outputs list ≡ false
-  unfolding lengths_fit
-  lengths_next e = both_no (eqb (length outputs) OUTPUT_ENTRIES) (both_no (eqb (length list) LIST_ENTRIES) e)
-
   pub lengths_all : eqb (length outputs) OUTPUT_ENTRIES ≡ true → eqb (length list) LIST_ENTRIES ≡ true → eqb (length next) NEXT_ENTRIES ≡ true →
       lengths_fit next outputs list ≡ true
   unfolding lengths_fit

@@ -7,9 +7,8 @@ use Prim.Native.Nat.{ℕ, zero, suc, ◌+◌, ◌*◌, ◌-◌, ◌<◌, ◌≤�
 use native.Mathlib.Nat.{suc-mul, not-suc-le-zero}
 use native.Mathlib.Numerals.{add-one}
 use native.Mathlib.Omega.{arith}
-use borrow.Author.Fill.{fill_more}
 use borrow.Author.Tests.{eq-eqb}
-use lib.ListN.{length, set, replicate, drop, length-set, length-append, length-replicate, length-drop, drop_of_length-le}
+use lib.ListN.{length, set, replicate, length-set, length-append, length-replicate}
 use lib.Seq.{set_at}
 use Rattle.laws.specs.Choice.{both, choose}
 use Rattle.laws.proofs.Tests.{by_test, not_both}
@@ -23,19 +22,6 @@ use Rattle.needs.specs.Marks.{wanted_in}
 use Rattle.needs.specs.Listed.{flat, padded, Written}
 
 -- ---- the list is cleared
-pub filled_long : {list : List ℕ} {i e : ℕ} (l : List ℕ) → e ≡ length l → i ≤ e → list ≡ replicate i 0 ++ drop i l → length list ≡ length l
-filled_long {list} {i} l q h e =
-    ap length e ∙ length-append (replicate i 0) (drop i l)
-    ∙ (let a : length (replicate {A = ℕ} i 0) ≡ i = length-replicate {A = ℕ} i 0 in let b : length (drop i l) ≡ length l - i = length-drop i l in omega arith)
-
-pub filled_more : {list : List ℕ} {i e : ℕ} (l : List ℕ) → e ≡ length l → i < e → list ≡ replicate i 0 ++ drop i l →
-    set list i 0 ≡ replicate (i + 1) 0 ++ drop (i + 1) l
-filled_more {list} {i} l q h e = ap (λ x. set x i 0) e ∙ fill_more i 0 l (omega arith)
-
-pub filled_all : {list : List ℕ} {i e : ℕ} (l : List ℕ) → e ≡ length l → e ≤ i → i ≤ e → list ≡ replicate i 0 ++ drop i l → list ≡ replicate (length l) 0
-filled_all {list} {i} l q h k e =
-    let z : i ≡ length l = omega arith in
-    e ∙ ap (λ x. replicate i 0 ++ x) (drop_of_length-le l {i = i} (omega arith)) ∙ append-nil (replicate i 0) ∙ ap (λ x. replicate x 0) z
 
 -- ---- one pair more
 pub flat_length : (l : List Arrow) → length (flat l) ≡ 2 * length l
@@ -90,9 +76,6 @@ written_more {list} {list'} {l} {n} v u h room e = record {
 pub written_none : {list : List ℕ} (test : ℕ → ℕ → Bool) (n : ℕ) → list ≡ replicate LIST_ENTRIES 0 → Written list (arrows_upto test n 0) 0
 unfolding arrows_upto padded flat
 written_none test n e = record { long = ap length e ∙ length-replicate {A = ℕ} LIST_ENTRIES 0; is = e; count = refl }
-
-pub written_all : {list : List ℕ} (test : ℕ → ℕ → Bool) (n : ℕ) {v k : ℕ} → Written list (arrows_upto test n v) k → v ≡ n → Written list (arrows_upto test n n) k
-written_all {list} test n {v} {k} h e = subst (λ x. Written list (arrows_upto test n x) k) e h
 
 -- ---- one row
 module _ (test : ℕ → ℕ → Bool) (n v : ℕ) {list : List ℕ} where

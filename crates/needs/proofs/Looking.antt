@@ -91,22 +91,6 @@ module _ {actions : ℕ} {next c : List ℕ} {inside marks : List Bool} where
   pub leads_keep : {lead : List ℕ} {n : ℕ} → Leads actions next c lead inside marks n → Leads actions next c lead inside marks (n + 1)
   leads_keep h = record { long = h.long; known = λ i l k. later (h.known i l k) }
 
-  pub leads_put : {lead : List ℕ} {n i v : ℕ} → Leads actions next c lead inside marks n → i < STATES → i ≡ entry c n → flag_at marks n ≡ false →
-      flag_at inside n ≡ true → v ≡ lowest (flag_at inside) (agrees (step_in actions next) actions (entry c)) n →
-      Leads actions next c (set lead i v) inside marks (n + 1)
-  leads_put {lead} {n} {i} {v} h l ei z r ev =
-      let here : entry (set lead i v) i ≡ v = get_or-set_same lead i v 0 (omega (arith, h.long)) in
-      record {
-        long = length-set lead i v ∙ h.long;
-        known = λ j p k. ⊎_elim
-            (λ (e : j ≡ i). subst (λ x. LeadAt actions next c inside marks x (entry (set lead i v) x) (n + 1)) (sym e)
-            (record { at = n; below = omega arith; unmarked = z; counts = r; class = sym ei; number = here ∙ ev }))
-            (λ (e : j ≢ i). let o = get_or-set_other lead i j v 0 e in
-            let q = later (h.known j p (omega arith)) in
-            record { at = q.at; below = q.below; unmarked = q.unmarked; counts = q.counts; class = q.class; number = o ∙ q.number })
-            (one_of j i (eqb j i) refl);
-      }
-
   pub lead_before : {lead : List ℕ} {s i k : ℕ} → Leads actions next c lead inside marks s → i < STATES → k ≡ entry lead i → k < STATES → k < s
   lead_before {lead} {s} {i} {k} h li ek lk =
       let q = h.known i li (omega arith) in
@@ -128,9 +112,6 @@ pub record BeforesTo (actions : ℕ) (next : List ℕ) (before : List Bool) (s a
   pub row : (e : ℕ) → e < a → flag_at before (step_in actions next s e * STATES + s) ≡ true
 
 module _ {actions : ℕ} {next : List ℕ} {before : List Bool} where
-  pub befores_none : length before ≡ STATES * STATES → BeforesTo actions next before 0 0
-  befores_none e = record { long = e; rows = λ t e l. absurd (not-suc-le-zero l); row = λ e l. absurd (not-suc-le-zero l) }
-
   module _ {s a : ℕ} (h : BeforesTo actions next before s a) where
     pub befores_more : {x : ℕ} → x ≡ step_in actions next s a → x < STATES → s < STATES → BeforesTo actions next (set before (x * STATES + s) true) s (a + 1)
     befores_more {x} e lx ls =
@@ -161,9 +142,6 @@ pub record MergedTo (before marks marks' : List Bool) (x n : ℕ) : Type 0 where
   pub rest : (s : ℕ) → n ≤ s → flag_at marks' s ≡ flag_at marks s
 
 module _ {before marks : List Bool} {x : ℕ} where
-  pub merged_none : length marks ≡ STATES → MergedTo before marks marks x 0
-  merged_none e = record { long = e; each = λ s l. absurd (not-suc-le-zero l); rest = λ s l. refl }
-
   module _ {marks' : List Bool} {n : ℕ} (h : MergedTo before marks marks' x n) where
     pub merged_more : {b : Bool} → n < STATES → b ≡ either (flag_at marks' n) (flag_at before (x * STATES + n)) → MergedTo before marks (set marks' n b) x (n + 1)
     merged_more {b} l e = record {
@@ -183,9 +161,6 @@ pub record TouchedTo (before : List Bool) (c d keep : List ℕ) (marks : List Bo
   pub seen : (y s : ℕ) → y < n → s < STATES → flag_at marks s ≡ false → (entry d y ≡ entry keep (entry c y) → ⊥) → flag_at before (y * STATES + s) ≡ false
 
 module _ {before : List Bool} {c d keep : List ℕ} {marks : List Bool} where
-  pub touched_none : length marks ≡ STATES → TouchedTo before c d keep marks 0
-  touched_none e = record { long = e; seen = λ y s l. absurd (not-suc-le-zero l) }
-
   module _ {n : ℕ} (h : TouchedTo before c d keep marks n) where
     pub touched_skip : {i : ℕ} → i ≡ entry c n → entry d n ≡ entry keep i → TouchedTo before c d keep marks (n + 1)
     touched_skip ei e = record {

@@ -11,30 +11,23 @@ use native.Mathlib.Omega.{arith}
 use borrow.Author.Count.{below_more}
 use borrow.Author.Tests.{eq-eqb, eqb-true, lt-ltb, le-ltb, ltb-true, ltb-false}
 use lib.Dec.{eqb, ltb}
-use lib.ListN.{length, set, length-set}
+use lib.ListN.{length, set}
 use lib.Seq.{get_or-set_same, get_or-set_other}
 use Rattle.laws.specs.Choice.{both, brings, choose}
 use Rattle.laws.specs.Range.{every}
-use Rattle.laws.proofs.Tests.{by_test, not_both, brings_of, brings_at, either_false, choose_yes, choose_no}
+use Rattle.laws.proofs.Tests.{by_test, brings_of, brings_at, either_false, choose_yes, choose_no}
 use Rattle.laws.proofs.Loops.{both_not}
 use Rattle.laws.proofs.Range.{every_at, every_same}
 use Rattle.model.specs.Limits.{STATES}
 use Rattle.reach.specs.Set.{flag_at}
-use Rattle.needs.specs.Tables.{step_in, entry, Steps}
+use Rattle.needs.specs.Tables.{step_in, entry}
 use Rattle.needs.specs.Classes.{agrees, unchanged, Below, Led}
-use Rattle.needs.specs.Again.{Befores, Merged, Touched, Places, On, Longer, Stayed, Moved, Covered, Leads, kept_number, MovedTo}
+use Rattle.needs.specs.Again.{Merged, Places, On, Longer, Stayed, Covered, Leads, kept_number, MovedTo}
 use Rattle.needs.proofs.Looking.{one_of}
 
 -- ---- a list goes on
 pub longer_same : {list : List ℕ} {n : ℕ} → Places list n → Longer list list n n
 longer_same p = record { places = p; more = omega arith; stays = λ l x o. o }
-
-pub longer_joined : {a b e : List ℕ} {n m k : ℕ} → Longer a b n m → Longer b e m k → Longer a e n k
-longer_joined p q = record {
-  places = q.places;
-  more = omega (arith, p.more, q.more);
-  stays = λ l x o. q.stays l x (p.stays (omega (arith, q.more)) x o);
-}
 
 module _ {list : List ℕ} {n : ℕ} (h : Places list n) (l : n < STATES) where
   written : (x : ℕ) → entry (set list n x) n ≡ x
@@ -43,25 +36,8 @@ module _ {list : List ℕ} {n : ℕ} (h : Places list n) (l : n < STATES) where
   unwritten : (x i : ℕ) → i < n → entry (set list n x) i ≡ entry list i
   unwritten x i q = get_or-set_other list n i x 0 (λ e. absurd (omega arith))
 
-  pub noted_more : {s x : ℕ} → s < STATES → x ≡ s → Longer list (set list n x) n (n + 1)
-  noted_more {s} {x} p e = record {
-    places = record {
-      long = length-set list n x ∙ h.long;
-      most = omega arith;
-      within = below_more (λ i. entry (set list n x) i < STATES) n (λ i q. let o = unwritten x i q in omega (arith, h.within i q)) (omega (arith, written x));
-    };
-    more = omega arith;
-    stays = λ m y o. record { place = o.place; below = omega (arith, o.below); here = unwritten x o.place o.below ∙ o.here };
-  }
-
-  pub noted_here : {s x : ℕ} → x ≡ s → On (set list n x) (n + 1) s
-  noted_here {s} {x} e = record { place = n; below = omega arith; here = written x ∙ e }
-
 -- ---- the states that have their old class number again are put on it
 module _ {c d : List ℕ} {old : ℕ} where
-  pub stayed_none : {list : List ℕ} {n : ℕ} → Stayed c d list n old old
-  stayed_none = record { listed = λ l t p q. absurd (omega arith) }
-
   module _ {list : List ℕ} {n t : ℕ} (h : Stayed c d list n old t) where
     pub stayed_skip : (entry c t ≡ old → entry d t ≡ old → ⊥) → Stayed c d list n old (t + 1)
     stayed_skip k = record {
@@ -100,11 +76,8 @@ kept_first {lead = lead} {s = s} w h m l =
     (λ e. kept_old lead s refl (ltb-false (entry lead s) STATES e))
 
 -- ---- the list is filled while the numbers are
-pub moved_none : {c d lead list : List ℕ} → length list ≡ STATES → MovedTo 0 c d lead list 0
-moved_none e = record {
-  places = record { long = e; most = omega arith; within = λ i l. absurd (not-suc-le-zero l) };
-  listed = λ l x q. absurd (not-suc-le-zero q);
-}
+pub moved_none : {c d lead list : List ℕ} {n : ℕ} → Places list n → MovedTo 0 c d lead list n
+moved_none p = record { places = p; listed = λ l x q. absurd (not-suc-le-zero q) }
 
 module _ {c d lead list : List ℕ} {s n : ℕ} (h : MovedTo s c d lead list n) (p : s < length d) (v : ℕ) where
   earlier : (x : ℕ) → x < s → entry (set d s v) x ≡ entry d x
@@ -151,32 +124,6 @@ module _ {c d lead list : List ℕ} {s n : ℕ} (h : MovedTo s c d lead list n) 
           (λ y. k (earlier x q ∙ y ∙ sym (kept_other lead old (entry c x) v e)))))
           (one_of (entry c x) old (eqb (entry c x) old) refl)
 
-pub moved_all : {c d lead list : List ℕ} {s n : ℕ} (states : ℕ) → MovedTo s c d lead list n → states ≤ s → Moved states c d list n
-moved_all {c} {d} {lead} {list} {s} {n} states h m = record {
-  places = h.places;
-  together = λ l x y px py kx ky e. part l x px kx ∙ ap (kept_number lead) e ∙ sym (part l y py ky);
-}
-  where
-    part : n < STATES → (x : ℕ) → x < states → (On list n x → ⊥) → entry d x ≡ kept_number lead (entry c x)
-    part l x p k =
-        ⊎_elim
-        (λ (e : entry d x ≡ kept_number lead (entry c x)). e)
-        (λ (e : entry d x ≢ kept_number lead (entry c x)). absurd (k (h.listed l x (omega arith) e)))
-        (one_of (entry d x) (kept_number lead (entry c x)) (eqb (entry d x) (kept_number lead (entry c x))) refl)
-
--- what leads to no state listed leads to states that stay together
-pub covered_touched : {states actions n : ℕ} {next c d list : List ℕ} {before marks : List Bool} → Moved states c d list n → n < STATES →
-    Steps states actions next → Befores states actions next before → Covered before list marks n → Touched states actions next c d marks
-covered_touched {states} {actions} {n} {next} {c} {d} {list} {before} {marks} h l w b k = record {
-  kept = λ s t a ps pt q zs zt e. h.together l (step_in actions next s a) (step_in actions next t a) (w.next_in s a ps q) (w.next_in t a pt q)
-      (off s a ps q zs) (off t a pt q zt) e;
-}
-  where
-    off : (s a : ℕ) → s < states → a < actions → flag_at marks s ≡ false → On list n (step_in actions next s a) → ⊥
-    off s a p q z o =
-        not_both (b.marked s a p q)
-        (subst (λ x. flag_at before (x * STATES + s) ≡ false) o.here (k.seen o.place s o.below (omega (arith, w.states_most)) z))
-
 -- ---- whether no state that counts has another number
 pub both_still : (b : Bool) {x : Bool} → x ≡ true → b ≡ both b x
 unfolding both
@@ -189,10 +136,6 @@ pub record Same (inside : List Bool) (c d : List ℕ) (s : ℕ) (b : Bool) : Typ
 pub same_none : {inside : List Bool} {c d : List ℕ} → Same inside c d 0 true
 unfolding unchanged every
 same_none = record { told = refl }
-
-pub same_all : {inside : List Bool} {c d : List ℕ} {s : ℕ} {b : Bool} (states : ℕ) → Same inside c d s b → s ≤ states → states ≤ s →
-    b ≡ unchanged states (flag_at inside) (entry c) (entry d)
-same_all {inside} {c} {d} {s} states h l m = let q : s ≡ states = omega arith in h.told ∙ ap (λ x. unchanged x (flag_at inside) (entry c) (entry d)) q
 
 module _ {inside : List Bool} {E : ℕ → ℕ → Bool} {c d : List ℕ} {s : ℕ} {b : Bool} (w : Led (flag_at inside) E d s) (h : Same inside c d s b) where
   pub same_more : {d' : List ℕ} {r : Bool} → Led (flag_at inside) E d' (s + 1) → r ≡ both b (brings (flag_at inside s) (eqb (entry c s) (entry d' s))) →
@@ -223,9 +166,6 @@ same_lead {c = c} {d = d} {inside = inside} {s = s} {i = i} w h e l ek lk t =
 
 -- ---- the rows of the states listed are added
 module _ {before : List Bool} {list : List ℕ} {marks : List Bool} where
-  pub covered_none : length marks ≡ STATES → Covered before list marks 0
-  covered_none e = record { long = e; seen = λ i s l. absurd (not-suc-le-zero l) }
-
   module _ {n : ℕ} (h : Covered before list marks n) where
     pub covered_more : {marks' : List Bool} {x : ℕ} → x ≡ entry list n → Merged before marks marks' x → Covered before list marks' (n + 1)
     covered_more {marks'} {x} e m = record {

@@ -1,38 +1,28 @@
 -- The actions of one box, listed: what they show alike is what all of the box's actions show alike.
 -- Assumes nothing.
-use mathlib.Core.Path.{◌≡◌, refl, sym, ◌∙◌, ap, subst, fun_ext}
+use mathlib.Core.Path.{◌≡◌, sym, ◌∙◌, ap, subst, fun_ext}
 use mathlib.Core.Logic.{⊎_elim}
 use mathlib.Core.Bool.{Bool, true, false}
 use mathlib.Core.List.{List}
 use Prim.Native.Nat.{ℕ, ◌+◌, ◌<◌, ◌≤◌}
-use native.Mathlib.Nat.{not-suc-le-zero, eq-or-lt_of_le}
+use native.Mathlib.Nat.{eq-or-lt_of_le}
 use native.Mathlib.Omega.{arith}
 use borrow.Author.Count.{below_more}
 use borrow.Author.Tests.{eq-eqb, ne_eqb, eqb-true}
 use lib.Dec.{eqb}
-use lib.ListN.{length, get_or, set, length-set}
+use lib.ListN.{get_or, set, length-set}
 use lib.Seq.{get_or-set_same, get_or-set_other}
-use Rattle.laws.specs.Choice.{both}
 use Rattle.laws.specs.Range.{Held}
 use Rattle.laws.proofs.Tests.{agree, brings_at, brings_of}
 use Rattle.laws.proofs.Range.{every_at, every_of, every_held, every_not, held_more}
-use Rattle.model.specs.Limits.{STATES, ACTIONS, OUTPUT_ENTRIES}
+use Rattle.model.specs.Limits.{ACTIONS}
 use Rattle.needs.specs.Tables.{entry, seen_in}
 use Rattle.needs.specs.Classes.{Led}
-use Rattle.needs.specs.Own.{Owned, Listing, output_in, seen_by, output_slot, no_class}
+use Rattle.needs.specs.Own.{Owned, output_in, seen_by}
 use Rattle.needs.specs.Laws.{SameBy, seen_at, seen_of}
 
 -- ---- the list is filled
 module _ {owners : List ℕ} {u : ℕ} {list : List ℕ} where
-  pub owned_none : length list ≡ ACTIONS → Owned owners 0 u list 0
-  owned_none e = record {
-    long = e;
-    most = omega arith;
-    within = λ i l. absurd (not-suc-le-zero l);
-    mine = λ i l. absurd (not-suc-le-zero l);
-    all = λ a l. absurd (not-suc-le-zero l);
-  }
-
   module _ {a n : ℕ} (h : Owned owners a u list n) where
     pub owned_skip : {v : ℕ} → v ≡ get_or owners a 0 → (v ≡ u → ⊥) → Owned owners (a + 1) u list n
     owned_skip ev k = record {
@@ -63,13 +53,6 @@ module _ {owners : List ℕ} {u : ℕ} {list : List ℕ} where
 
     pub owned_all : (actions : ℕ) → a ≤ actions → actions ≤ a → Owned owners actions u list n
     owned_all actions l m = let q : a ≡ actions = omega arith in subst (λ b. Owned owners b u list n) q h
-
-pub listing_of : {owners outputs : List ℕ} {actions u : ℕ} {list : List ℕ} {n : ℕ} → Owned owners actions u list n → length outputs ≡ OUTPUT_ENTRIES → actions ≤ ACTIONS →
-    Listing outputs actions list n
-listing_of h e l = record { outputs_long = e; actions_most = l; most = h.most; within = h.within }
-
-pub listed_in : {outputs : List ℕ} {actions : ℕ} {list : List ℕ} {n i a : ℕ} → Listing outputs actions list n → i < n → a ≡ entry list i → a < actions
-listed_in h l e = omega (arith, h.within _ l)
 
 pub above_none : {s : ℕ} → (s ≡ 0 → ⊥) → 0 < s
 above_none {s} n = let l : 0 ≤ s = omega arith in ⊎_elim (λ (q : 0 ≡ s). absurd (n (sym q))) (λ (q : 0 < s). q) (eq-or-lt_of_le l)

@@ -25,7 +25,7 @@ use Rattle.model.specs.Denoted.{machine_of, next_at, owner_at}
 use Rattle.model.specs.declared.Machine.{Machine}
 use Rattle.reach.specs.Set.{flag_at}
 use Rattle.needs.specs.Tables.{step_in, entry, Fitting}
-use Rattle.needs.specs.Marks.{Owners, cell_at, movers, sources, Marked, wanted_in, SortedOut}
+use Rattle.needs.specs.Marks.{cell_at, movers, sources, Marked, wanted_in, SortedOut}
 use Rattle.needs.specs.Rounds.{Known, Refined}
 use Rattle.needs.proofs.Classes.{tells, alike_equivalent, inside_next}
 
@@ -148,11 +148,6 @@ module _ {m : Machine} {next outputs : List ℕ} {inside table : List Bool} {dep
   pub box_small : m.sizes.boxes ≤ BOXES
   box_small = h.fits.good.machine.sizes.boxes_most
 
-  pub owners_in : {owners : List ℕ} → owners ≡ m.owners → Owners m.sizes.actions owners
-  owners_in e = record {
-    owner_in = λ a l. let z : get_or m.owners a 0 < m.sizes.boxes = h.fits.good.machine.owner_in a l in rw e (omega (arith, box_small));
-  }
-
   pub sorting_more : {owners : List ℕ} (c : List ℕ) {k : ℕ} {table' : List Bool} → owners ≡ m.owners → u < m.sizes.boxes →
       Refined (machine_of m next outputs) (flag_at inside) u (entry c) k →
       Marked table table' u (sources owners (step_in m.sizes.actions next) m.sizes.actions (entry c) (flag_at inside) m.sizes.states) →
@@ -171,6 +166,3 @@ module _ {m : Machine} {next outputs : List ℕ} {inside table : List Bool} {dep
     known = h.known;
     sorted = sorted_silent m next outputs h.known h.sorted (omega (arith, box_small)) (subst (λ o. some m.sizes.actions (λ a. eqb (get_or o a 0) u) ≡ false) e f);
   }
-
-  pub sorting_all : u ≡ m.sizes.boxes → SortedOut (machine_of m next outputs) (flag_at inside) table depths m.sizes.boxes
-  sorting_all e = subst (λ n. SortedOut (machine_of m next outputs) (flag_at inside) table depths n) e h.sorted

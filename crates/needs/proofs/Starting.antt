@@ -10,15 +10,14 @@ use native.Mathlib.Numerals.{add-one}
 use native.Mathlib.Omega.{arith}
 use borrow.Author.Count.{below_more}
 use lib.Dec.{eqb}
-use lib.ListN.{length, set, length-set}
-use lib.Seq.{get_or-set_same, get_or-set_other}
+use lib.ListN.{length}
 use Rattle.laws.specs.Choice.{both}
 use Rattle.laws.proofs.Tests.{by_test, not_both, both_of, both_true}
 use Rattle.laws.proofs.Range.{below_suc}
 use Rattle.model.specs.Limits.{STATES}
-use Rattle.needs.specs.Tables.{step_in, entry, Steps}
-use Rattle.needs.specs.Classes.{lowest, agrees, Missed, Below}
-use Rattle.needs.specs.Starts.{SLOTS, slot_of, next_slot, Begun, Began}
+use Rattle.needs.specs.Tables.{entry, Steps}
+use Rattle.needs.specs.Classes.{lowest, Missed, Below}
+use Rattle.needs.specs.Starts.{SLOTS, slot_of, Begun, Began}
 use Rattle.needs.proofs.Classes.{lowest_le, lowest_holds}
 use Rattle.needs.proofs.Looking.{one_of}
 
@@ -39,27 +38,7 @@ slot_small (suc n) f = omega arith
 pub slot_bound : (f : ℕ → ℕ) (i : ℕ) {k : ℕ} → k ≡ slot_of i f → k < SLOTS
 slot_bound f i e = rw e (slot_small i f)
 
-pub slot_all : (n : ℕ) (f : ℕ → ℕ) {i k : ℕ} → k ≡ slot_of i f → i ≤ n → n ≤ i → (k ≡ slot_of n f) × (k < SLOTS)
-slot_all n f {i} e l m = let q : i ≡ n = omega arith in (e ∙ ap (λ x. slot_of x f) q, slot_bound f i e)
-
 -- ---- the starts
-pub began_there : {starts : List ℕ} {slot s x : ℕ} → length starts ≡ SLOTS → x ≡ entry starts slot → x < s → Began starts starts slot s x
-began_there l e p = record { long = l; most = omega arith; low = omega arith; here = omega arith; lower = λ k. omega arith }
-
-pub began_here : {starts : List ℕ} {slot s x y : ℕ} → length starts ≡ SLOTS → slot < SLOTS → x ≡ entry starts slot → s ≤ x → y ≡ s →
-    Began starts (set starts slot y) slot s s
-began_here {starts} {slot} {s} {x} {y} l p e m ey =
-    let h : entry (set starts slot y) slot ≡ y = get_or-set_same starts slot y 0 (omega arith) in
-    record {
-      long = length-set starts slot y ∙ l;
-      most = omega arith;
-      low = omega arith;
-      here = omega arith;
-      lower = λ k. ⊎_elim
-          (λ (q : k ≡ slot). subst (λ j. entry (set starts slot y) j ≤ entry starts j) (sym q) (omega arith))
-          (λ (q : k ≢ slot). let o = get_or-set_other starts slot k y 0 q in omega arith)
-          (one_of k slot (eqb k slot) refl);
-    }
 
 module _ (inside : ℕ → Bool) (E : ℕ → ℕ → Bool) (old slot : ℕ → ℕ) where
   pub begun_none : {starts : List ℕ} → length starts ≡ SLOTS → Begun inside E old slot starts 0
@@ -116,11 +95,6 @@ module _ (inside : ℕ → Bool) (E : ℕ → ℕ → Bool) (old slot : ℕ → 
             (λ (q : j ≡ m). subst (λ y. both (inside y) (E y s) ≡ false) (sym q)
             (by_test (both (inside m) (E m s)) (λ e. absurd (alone m (omega arith) (none m (omega arith)) e)) (λ e. e)))
             (below_suc p)
-
--- a class number other than the state is below it
-pub below_other : {states : ℕ} {c : List ℕ} {s x : ℕ} → Below states c → s < states → entry c s ≢ s → x ≡ entry c s → x < s
-below_other {states} {c} {s} {x} w l n e =
-    ⊎_elim (λ (q : entry c s ≡ s). absurd (n q)) (λ (q : entry c s < s). omega arith) (eq-or-lt_of_le (w.upto s l))
 
 pub below_small : {states actions : ℕ} {next c : List ℕ} {s x : ℕ} → Steps states actions next → Below states c → s < states → x ≡ entry c s → x < STATES
 below_small w b l e = omega (arith, w.states_most, b.upto _ l)

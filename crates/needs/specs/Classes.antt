@@ -3,7 +3,7 @@ use Rattle.std.specs.Prelude.{◌≡◌, Bool, true, false, List, ℕ, ◌<◌, 
 use Rattle.laws.specs.Choice.{both, brings}
 use Rattle.laws.specs.Range.{every, first}
 use Rattle.model.specs.Limits.{STATES}
-use Rattle.needs.specs.Tables.{entry}
+use Rattle.needs.specs.Tables.{step_in, entry}
 
 -- c names the class of each state that counts, where E says which states are alike
 pub record Classes (inside : ℕ → Bool) (E : ℕ → ℕ → Bool) (c : ℕ → ℕ) : Type 0 where
@@ -22,6 +22,10 @@ pub record Missed (inside : ℕ → Bool) (E : ℕ → ℕ → Bool) (s t : ℕ)
 -- t and s have one class number, now and after each action
 unfoldable pub agrees : (ℕ → ℕ → ℕ) → ℕ → (ℕ → ℕ) → ℕ → ℕ → Bool
 agrees step actions c t s = both (eqb (c t) (c s)) (every actions λ a. eqb (c (step t a)) (c (step s a)))
+
+-- the same of the tables of next states and class numbers
+abbrev pub agrees_in : ℕ → List ℕ → List ℕ → ℕ → ℕ → Bool
+agrees_in actions next c = agrees (step_in actions next) actions (entry c)
 
 -- no class number of a state that counts differs
 unfoldable pub unchanged : ℕ → (ℕ → Bool) → (ℕ → ℕ) → (ℕ → ℕ) → Bool

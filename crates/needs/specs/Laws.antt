@@ -1,7 +1,7 @@
 -- The laws that each likeness hands in: what it sorts states by.
 -- Assumes nothing.
-use Rattle.std.specs.Prelude.{◌≡◌, Bool, true, List, ℕ, zero, suc, ◌<◌, ◌≤◌, eqb, get_or}
-use Rattle.std.proofs.Common.{refl, sym, ◌∙◌, arith}
+use Rattle.std.specs.Prelude.{◌≡◌, Bool, true, List, ℕ, zero, suc, ◌<◌, eqb}
+use Rattle.std.proofs.Common.{refl, ◌∙◌, arith}
 use borrow.Author.Tests.{eq-eqb, eqb-true}
 use Rattle.laws.proofs.Tests.{both_of, both_true}
 use Rattle.laws.proofs.Range.{every_at, every_of}

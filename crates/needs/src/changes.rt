@@ -9,18 +9,16 @@ use crate::rounds::{Classes, Moves};
 use crate::walk::Walk;
 use model::STATES;
 
-// The states that lead to each state.
-pub(crate) fn befores(walk: &Walk<'_>) -> [bool; STATE_PAIRS]
-    ensures { Befores walk.now.states walk.now.actions walk.now.next.now result }
+// Notes the states that lead to each state.
+pub(crate) fn note_befores(walk: &Walk<'_>, before: &mut [bool; STATE_PAIRS])
+    ensures { Befores walk.now.states walk.now.actions walk.now.next.now before.new }
 {
-    let mut before = [false; STATE_PAIRS];
     'states: for s in 0..walk.states {
         'actions: for a in 0..walk.actions {
             let x = walk.step(s, a);
             before[x * STATES + s] = true;
         }
     }
-    before
 }
 
 // Marks the states that lead to x too.
@@ -91,8 +89,8 @@ pub(crate) fn leading(before: &[bool; STATE_PAIRS], moved: &Moves) -> [bool; STA
     ensures { Covered before.now moved.now.list result moved.now.count }
 {
     let mut marks = [false; STATES];
-    'moved: for i in 0..moved.count {
-        merge(&mut marks, before, usize::from(moved.list[i]));
+    for &x in &moved.list[..moved.count] {
+        merge(&mut marks, before, usize::from(x));
     }
     marks
 }

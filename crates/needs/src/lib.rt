@@ -1,6 +1,7 @@
 // The arrows that a machine needs, whatever was drawn, and how long a run each box needs to tell apart all that it can.
-#![tactic(auto)]
+#![tactic(auto, using(laws::proofs::Loops::each), unfolding(laws::specs::Choice::both, laws::specs::Choice::choose, laws::specs::Choice::brings, crate::specs::Answered::lengths_fit, crate::specs::Answered::needed_of, crate::specs::Answered::list_of, crate::specs::Marks::wanted_in, crate::specs::Own::seen_by, crate::specs::Classes::agrees))]
 
+// Loops go by number here: a state, an action or a box is the number that several tables are read at (`s * actions + a`, `v * BOXES + u`).
 mod arrows;
 mod changes;
 mod likeness;
@@ -22,9 +23,9 @@ ghost use Rattle.needs.specs.Listed.{padded};
 ghost use Rattle.needs.specs.Answered.{found_in, needed_of, list_of};
 
 use crate::arrows::{mark, write_list};
-use crate::changes::{again, befores};
+use crate::changes::{again, note_befores};
 use crate::outputs::{Outputs, first_round, observes, own_actions};
-use crate::rounds::{Classes, one_class, round};
+use crate::rounds::{Classes, Moves, one_class, round};
 use crate::walk::Walk;
 use model::{
     ARROWS, BOXES, LIST_ENTRIES, Machine, NEXT_ENTRIES, OUTPUT_ENTRIES, Refusal, Refused, STATES,
@@ -92,11 +93,16 @@ fn refine(
             walk,
             numbers: &numbers,
         };
-        let outcome = round(&classes, inside, &marks);
+        // lent, since moving it inside the outcome copied it three times a round (needed arrows of chain-even: 2,340 -> 2,433 thousand instructions)
+        let mut moved = Moves {
+            list: [0u8; STATES],
+            count: 0,
+        };
+        let outcome = round(&classes, inside, &marks, &mut moved);
         if outcome.same {
             return Refinement { numbers, rounds };
         }
-        marks = again(before, &classes, &outcome.numbers, &outcome.moved);
+        marks = again(before, &classes, &outcome.numbers, &moved);
         numbers = outcome.numbers;
         rounds += 1;
     }
@@ -122,7 +128,8 @@ fn sort(tables: &Tables<'_>, inside: &[bool; STATES]) -> Sorted
     };
     let mut table = [false; ARROWS];
     let mut depths = [0usize; BOXES];
-    let before = befores(&walk);
+    let mut before = [false; STATE_PAIRS];
+    note_befores(&walk, &mut before);
     'boxes: for u in 0..machine.sizes.boxes {
         if observes(machine, u) {
             let refinement = refine(tables, inside, &before, u);
@@ -170,6 +177,8 @@ fn found(tables: &Tables<'_>, reached: &Set, list: &mut [u16]) -> Needs
 
 // The needed arrows and the depths of a machine. Refused: a table or a list of another length, which leaves the list untouched;
 // a machine or a next state that breaks the rules, which zeroes it.
+// Not inlined, so that its tables leave the stack with it.
+#[inline(never)]
 pub fn needed(
     machine: Machine,
     next: &[u16],

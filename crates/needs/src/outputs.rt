@@ -71,6 +71,7 @@ impl<'a> Likeness for Outputs<'a> {
 
     ghost laws = { λ o. seen_sorts o.own.list o.own.count o.table.now o.actions };
 
+    // by number: the definitions count the actions of the list
     fn alike(&self, t: usize, s: usize) -> bool {
         'actions: for i in 0..self.own.count {
             if self.output(t, i) != self.output(s, i) {
@@ -111,10 +112,5 @@ pub(crate) fn first_round(
 pub(crate) fn observes(machine: &Machine, u: usize) -> bool
     ensures { result ≡ some machine.now.sizes.actions (λ a. eqb (owner_at machine.now a) u) }
 {
-    'actions: for a in 0..machine.sizes.actions {
-        if machine.owner(a) == u {
-            return true;
-        }
-    }
-    false
+    (0..machine.sizes.actions).any(|a| machine.owner(a) == u)
 }

@@ -4,8 +4,8 @@ ghost use Rattle.laws.specs.Choice.{both, brings};
 ghost use Rattle.laws.specs.Range.{every};
 ghost use Rattle.model.specs.Limits.{STATES};
 ghost use Rattle.reach.specs.Set.{flag_at};
-ghost use Rattle.needs.specs.Tables.{step_in, entry};
-ghost use Rattle.needs.specs.Classes.{agrees, unchanged, Below, Led};
+ghost use Rattle.needs.specs.Tables.{entry};
+ghost use Rattle.needs.specs.Classes.{agrees_in, unchanged, Below, Led};
 ghost use Rattle.needs.specs.Again.{Quiet, Leads, Places, On, Longer, Stayed, Moved, MovedTo, kept_number};
 ghost use Rattle.needs.specs.Starts.{next_slot, Begun};
 ghost use Rattle.needs.specs.Laws.{agree_sorts};
@@ -26,7 +26,7 @@ pub(crate) struct Classes<'w, 'n> {
 
 // States are alike that have one class number, now and after each action.
 impl<'w, 'n> Likeness for Classes<'w, 'n> {
-    ghost alike = { λ c. agrees (step_in c.walk.actions c.walk.next.now) c.walk.actions (entry c.numbers.now) };
+    ghost alike = { λ c. agrees_in c.walk.actions c.walk.next.now c.numbers.now };
 
     ghost old = { λ c. entry c.numbers.now };
 
@@ -140,15 +140,16 @@ pub(crate) fn place(
     moved: &mut Moves,
     s: usize,
 )
-    requires led { Led (flag_at inside.now) (agrees (step_in classes.now.walk.actions classes.now.walk.next.now) classes.now.walk.actions (entry classes.now.numbers.now)) d.old s }
+    requires led { Led (flag_at inside.now) (agrees_in classes.now.walk.actions classes.now.walk.next.now classes.now.numbers.now) d.old s }
     requires leads { Leads classes.now.walk.actions classes.now.walk.next.now classes.now.numbers.now lead.old inside.now marks.now s }
-    requires begun { Begun (flag_at inside.now) (agrees (step_in classes.now.walk.actions classes.now.walk.next.now) classes.now.walk.actions (entry classes.now.numbers.now)) (entry classes.now.numbers.now) (next_slot classes.now.walk.actions classes.now.walk.next.now classes.now.numbers.now) starts.old s }
+    requires begun { Begun (flag_at inside.now) (agrees_in classes.now.walk.actions classes.now.walk.next.now classes.now.numbers.now) (entry classes.now.numbers.now) (next_slot classes.now.walk.actions classes.now.walk.next.now classes.now.numbers.now) starts.old s }
     requires moved_to { MovedTo s classes.now.numbers.now d.old lead.old moved.old.list moved.old.count }
-    requires follows { (s < classes.now.walk.states) × (entry classes.now.numbers.now s ≢ s) }
+    requires s_bound { s < classes.now.walk.states }
+    requires no_first { entry classes.now.numbers.now s ≢ s }
     requires unknown { flag_at marks.now s ≡ false → STATES ≤ entry lead.old (entry classes.now.numbers.now s) }
-    ensures led { Led (flag_at inside.now) (agrees (step_in classes.now.walk.actions classes.now.walk.next.now) classes.now.walk.actions (entry classes.now.numbers.now)) d.new (s + 1) }
+    ensures led { Led (flag_at inside.now) (agrees_in classes.now.walk.actions classes.now.walk.next.now classes.now.numbers.now) d.new (s + 1) }
     ensures leads { Leads classes.now.walk.actions classes.now.walk.next.now classes.now.numbers.now lead.new inside.now marks.now (s + 1) }
-    ensures begun { Begun (flag_at inside.now) (agrees (step_in classes.now.walk.actions classes.now.walk.next.now) classes.now.walk.actions (entry classes.now.numbers.now)) (entry classes.now.numbers.now) (next_slot classes.now.walk.actions classes.now.walk.next.now classes.now.numbers.now) starts.new (s + 1) }
+    ensures begun { Begun (flag_at inside.now) (agrees_in classes.now.walk.actions classes.now.walk.next.now classes.now.numbers.now) (entry classes.now.numbers.now) (next_slot classes.now.walk.actions classes.now.walk.next.now classes.now.numbers.now) starts.new (s + 1) }
     ensures moved_to { MovedTo (s + 1) classes.now.numbers.now d.new lead.new moved.new.list moved.new.count }
 {
     let old = usize::from(classes.numbers[s]);
@@ -183,33 +184,30 @@ pub(crate) fn still(
     same && (c[s] == d[s] || !inside[s])
 }
 
-// The class numbers of the next round, whether each state that counts has its old one, and the states that moved out of the kept part of their class.
+// The class numbers of the next round, and whether each state that counts has its old one.
 #[derive(Clone, Copy)]
 pub(crate) struct Rounded {
     pub(crate) numbers: [u8; STATES],
     pub(crate) same: bool,
-    pub(crate) moved: Moves,
 }
 
-// The next round. Only a marked state, and the first unmarked one of a class, are compared with others.
+// The next round; it puts on the list the states that moved out of the kept part of their class.
+// Only a marked state, and the first unmarked one of a class, are compared with others.
 pub(crate) fn round(
     classes: &Classes<'_, '_>,
     inside: &[bool; STATES],
     marks: &[bool; STATES],
+    moved: &mut Moves,
 ) -> Rounded
     requires { Quiet classes.now.walk.states classes.now.walk.actions classes.now.walk.next.now classes.now.numbers.now marks.now }
-    ensures led { Led (flag_at inside.now) (agrees (step_in classes.now.walk.actions classes.now.walk.next.now) classes.now.walk.actions (entry classes.now.numbers.now)) result.numbers classes.now.walk.states }
+    ensures led { Led (flag_at inside.now) (agrees_in classes.now.walk.actions classes.now.walk.next.now classes.now.numbers.now) result.numbers classes.now.walk.states }
     ensures same { result.same ≡ unchanged classes.now.walk.states (flag_at inside.now) (entry classes.now.numbers.now) (entry result.numbers) }
-    ensures moved { Moved classes.now.walk.states classes.now.numbers.now result.numbers result.moved.list result.moved.count }
+    ensures moved { Moved classes.now.walk.states classes.now.numbers.now result.numbers moved.new.list moved.new.count }
 {
     let c = classes.numbers;
     let mut d = [0u8; STATES];
     let mut lead = [NO_STATE; STATES];
     let mut starts = [NO_STATE; SLOTS];
-    let mut moved = Moves {
-        list: [0u8; STATES],
-        count: 0,
-    };
     let mut same = true;
     'states: for s in 0..classes.walk.states {
         let old = usize::from(c[s]);
@@ -229,16 +227,12 @@ pub(crate) fn round(
             marks,
             &mut lead,
             &mut starts,
-            &mut moved,
+            moved,
             s,
         );
         same = still(same, inside, c, &d, s);
     }
-    Rounded {
-        numbers: d,
-        same,
-        moved,
-    }
+    Rounded { numbers: d, same }
 }
 
 // Whether all states that count have number 0: one class, which no round splits.
@@ -246,13 +240,5 @@ pub(crate) fn one_class(inside: &[bool; STATES], c: &[u8; STATES], states: usize
     requires { states ≤ STATES }
     ensures { result ≡ every states (λ s. brings (flag_at inside.now s) (eqb (entry c.now s) 0)) }
 {
-    'states: for s in 0..states {
-        if c[s] == 0 {
-            continue 'states;
-        }
-        if inside[s] {
-            return false;
-        }
-    }
-    true
+    (0..states).all(|s| c[s] == 0 || !inside[s])
 }

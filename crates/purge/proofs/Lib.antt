@@ -2,7 +2,6 @@ pub mod Sets
 pub mod Marks
 pub mod Gathered
 pub mod Kept
-pub mod Told
 pub mod Written
 pub mod Answers
 pub mod Meaning

@@ -23,6 +23,3 @@ pack_more test v {set} {b} l m e h =
     let n : BOXES - (v - 1) ≡ suc (BOXES - v) = omega arith in
     let w : v - 1 + 1 ≡ v = omega arith in
     rw (n, w, ← e, ← h)
-
-pub pack_end : (test : ℕ → Bool) (v : ℕ) {set : ℕ} → v ≤ 0 → set ≡ pack test v (BOXES - v) → set ≡ pack test 0 BOXES
-pack_end test v {set} l e = let z : v ≡ 0 = omega arith in subst (λ k. set ≡ pack test k (BOXES - k)) z e

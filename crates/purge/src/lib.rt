@@ -20,6 +20,7 @@ fn interferers(model: &Model, u: usize) -> u32
     ensures { result ≡ pack (λ v. leads model.now.arrows v u) 0 BOXES }
 {
     let mut set: u32 = 0;
+    // by number: `arrow` asks for two; over the rows as a slice each would have its bit picked by hand
     'boxes: for v in (0..BOXES).rev() {
         set = set * 2 + u32::from(model.arrow(v, u));
     }
@@ -100,7 +101,7 @@ fn added(kind: Kind, model: &Model) -> [u32; BOXES]
 // Writes the kept actions, and 255 to the end of the buffer.
 fn keep(model: &Model, kind: Kind, position: usize, run: &[u8], kept: &mut [u8]) -> usize
     requires askable { Askable model.now position run.now }
-    requires kept_len { length kept.old ≡ length run.now }
+    requires as_long { length kept.old ≡ length run.now }
     ensures { purge_result (Ok result) kept.new ≡ written (kept_of model.now kind position run.now) (length run.now) }
 {
     let into = added(kind, model);

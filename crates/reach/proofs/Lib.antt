@@ -1,3 +1,3 @@
-pub mod Worklist
+pub mod Exploring
 pub mod Answered
 pub mod Told

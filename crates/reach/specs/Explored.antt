@@ -31,6 +31,13 @@ pub record Explored (m : Machine) (next : List ℕ) (flags : List Bool) (work : 
   pub place : (s : ℕ) → flag_at flags s ≡ true → Entered work entered s
   pub looked : (i a : ℕ) → i < done → a < m.sizes.actions → flag_at flags (next_at m next (get_or work i 0) a) ≡ true
 
+-- the state s that stands next in the worklist, of whose actions those below a are looked at
+pub record Looking (m : Machine) (next : List ℕ) (flags : List Bool) (work : List ℕ) (done n s a : ℕ) : Type 0 where
+  pub so_far : Explored m next flags work done n
+  pub is : s ≡ get_or work done 0
+  pub below : done < n
+  pub each : (b : ℕ) → b < a → flag_at flags (next_at m next s b) ≡ true
+
 -- the flags are of the reachable states
 pub record Complete (m : Machine) (next : List ℕ) (flags : List Bool) : Type 0 where
   pub long : length flags ≡ STATES

@@ -1,5 +1,5 @@
 // The register machine as fixed tables.
-#![tactic(auto)]
+#![tactic(auto, unfolding(model::specs::Arrows::selves, laws::specs::Sets::including, crate::specs::Tables::draws, crate::specs::Tables::by_box, crate::specs::Tables::by_state, crate::specs::Tables::column))]
 
 ghost use Rattle.std.specs.Prelude.{◌≡◌, ◌++◌, ◌≤◌, ◌-◌, length, replicate};
 ghost use Rattle.register.specs.Register as specs;

@@ -1,8 +1,8 @@
 -- What a loop over `flow` and `both` lines knows. Assumes nothing.
 use Rattle.model.specs.declared.refusal.Refusal.{Refusal}
-use Rattle.std.specs.Prelude.{Ok, Err, Some, None}
+use Rattle.std.specs.Prelude.{Ok, Err, Option, Some, None}
 use Prim.Native.Nat.{ℕ, ◌+◌, ◌-◌, ◌<◌, ◌≤◌}
-use mathlib.Core.Path.{◌≡◌, refl, sym, ap, ◌∙◌}
+use mathlib.Core.Path.{◌≡◌, refl, ap, ◌∙◌}
 use mathlib.Core.List.{List, ◌∷◌}
 use mathlib.Core.Logic.{inl, inr}
 use native.Mathlib.Omega.{arith}
@@ -14,14 +14,13 @@ use Rattle.model.proofs.Arrows.{drawn_length}
 use Rattle.text.specs.Lines.{lines, end_of, line_at, Ended}
 use Rattle.text.proofs.Parts.{Found, line_next, no_lines}
 use Rattle.model.specs.declared.refusal.Refused.{Refused}
-use Rattle.model.specs.Refusal.{refused_as}
 use Rattle.sheet.specs.declared.Arrows.{Arrows}
 use Rattle.sheet.specs.declared.Arrows.TheVariants.{One, Two}
-use Rattle.sheet.specs.declared.Drawn.{Drawn}
-use Rattle.sheet.specs.Records.{Flow, flow_line, on_flow}
-use Rattle.sheet.specs.OnePass.{drawn_to, flow_at}
+use Rattle.sheet.specs.declared.Taken.{Taken}
+use Rattle.sheet.specs.Records.{flow_line, on_flow}
+use Rattle.sheet.proofs.Taking.{TookFrom, took_from, StoppedFrom, ended, bad as stop, stopped_from}
 use Rattle.sheet.proofs.Good.{flow_good}
-use Rattle.sheet.specs.Phases.{Got, got, refused, flows}
+use Rattle.sheet.specs.Phases.{Got, got, refused, flows, taken_by}
 
 -- what is left at the place, with the arrows so far, gives what the whole run gives
 pub record Flowing (t ids : List ℕ) (all : Got (List ℕ)) (arrows : List ℕ) (at n : ℕ) : Type 0 where
@@ -66,57 +65,23 @@ module _ {t ids : List ℕ} {all : Got (List ℕ)} {arrows : List ℕ} {at n : �
     pub two : (v u : ℕ) → flow_line ids this ≡ Ok (Some (Two v u)) → Flowing t ids all (drawn u v (drawn v u arrows)) next (n + 1)
     two v u e = record { closed = p.closed; few = omega (arith, q.next_is, p.few); room = drawn_length u v (drawn v u arrows) ∙ drawn_length v u arrows ∙ p.room; rest = (rw e at step) }
 
--- the answer at a place says what the line there says, and where the next one is
-module _ (ids t : List ℕ) (at n : ℕ) where
-  pub record DrawnFrom (x : Drawn) : Type 0 where
-    pub line_is : flow_line ids (line_at t at) ≡ Ok (Some x.arrows)
-    pub next_is : x.next ≡ end_of 10 t at + 1
-
-  pub drawn_from : (x : Drawn) → flow_at ids t at n ≡ Ok (Some x) → DrawnFrom x
-  drawn_from x h = go (flow_line ids (line_at t at)) refl h
-    where
-      made : (a : Arrows) → flow_line ids (line_at t at) ≡ Ok (Some a) → drawn_to a (end_of 10 t at + 1) ≡ x → DrawnFrom x
-      made a q z = record { line_is = q ∙ ap (λ (y : Drawn). Ok (Some y.arrows)) z; next_is = sym (ap (λ (y : Drawn). y.next) z) }
-
-      go : (f : Flow) → flow_line ids (line_at t at) ≡ f → on_flow f (λ v u. Ok (Some (drawn_to (One v u) (end_of 10 t at + 1)))) (λ v u. Ok (Some (drawn_to (Two v u) (end_of 10 t at + 1)))) (λ e. Err (refused_as e n)) (Ok None) ≡ Ok (Some x) → DrawnFrom x
-      go (Ok (Some (One v u))) q h = made (One v u) q cc
-      go (Ok (Some (Two v u))) q h = made (Two v u) q cc
-      go (Ok None) q h = let z : ◌≡◌ {A = ℕ} 0 1 = cc in absurd (omega arith)
-      go (Err e) q h = let z : ◌≡◌ {A = ℕ} 0 1 = cc in absurd (omega arith)
-
-  pub other_from : flow_at ids t at n ≡ Ok None → flow_line ids (line_at t at) ≡ Ok None
-  other_from h = go (flow_line ids (line_at t at)) refl h
-    where
-      go : (f : Flow) → flow_line ids (line_at t at) ≡ f → on_flow f (λ v u. Ok (Some (drawn_to (One v u) (end_of 10 t at + 1)))) (λ v u. Ok (Some (drawn_to (Two v u) (end_of 10 t at + 1)))) (λ e. Err (refused_as e n)) (Ok None) ≡ Ok None → flow_line ids (line_at t at) ≡ Ok None
-      go (Ok (Some (One v u))) q h = let z : ◌≡◌ {A = ℕ} 0 1 = cc in absurd (omega arith)
-      go (Ok (Some (Two v u))) q h = let z : ◌≡◌ {A = ℕ} 0 1 = cc in absurd (omega arith)
-      go (Ok None) q h = q
-      go (Err e) q h = let z : ◌≡◌ {A = ℕ} 0 1 = cc in absurd (omega arith)
-
-  pub bad_from : (x : Refused) → flow_at ids t at n ≡ Err x → (flow_line ids (line_at t at) ≡ Err x.refusal) × (x.line ≡ n)
-  bad_from x h = go (flow_line ids (line_at t at)) refl h
-    where
-      go : (f : Flow) → flow_line ids (line_at t at) ≡ f → on_flow f (λ v u. Ok (Some (drawn_to (One v u) (end_of 10 t at + 1)))) (λ v u. Ok (Some (drawn_to (Two v u) (end_of 10 t at + 1)))) (λ e. Err (refused_as e n)) (Ok None) ≡ Err x → (flow_line ids (line_at t at) ≡ Err x.refusal) × (x.line ≡ n)
-      go (Ok (Some (One v u))) q h = let z : ◌≡◌ {A = ℕ} 0 1 = cc in absurd (omega arith)
-      go (Ok (Some (Two v u))) q h = let z : ◌≡◌ {A = ℕ} 0 1 = cc in absurd (omega arith)
-      go (Ok None) q h = let z : ◌≡◌ {A = ℕ} 0 1 = cc in absurd (omega arith)
-      go (Err e) q h =
-          let z : refused_as e n ≡ x = cc in
-          (q ∙ ap (λ (r : Refused). Err r.refusal) z, sym (ap (λ (r : Refused). r.line) z))
-
 module _ {t ids : List ℕ} {all : Got (List ℕ)} {arrows : List ℕ} {at n : ℕ} (p : Flowing t ids all arrows at n) (h : at < length t) where
   here : Found t at at (end_of 10 t at) (end_of 10 t at + 1)
   here = record { within = h; start_is = refl; end_is = refl; next_is = refl }
 
-  pub arrow_other : flow_at ids t at n ≡ Ok None → got arrows (lines (drop at t)) n ≡ all
-  arrow_other e = other p here (other_from ids t at n e)
+  pub arrow_bad : (x : Refused) → taken_by (flow_line ids) t at n ≡ Err x → refused x.refusal x.line ≡ all
+  arrow_bad x e = let w = stopped_from (flow_line ids) t at n x e in rw w.1 (go w.0)
+    where
+      go : {y : Refusal} → StoppedFrom (flow_line ids) t at n y → refused y n ≡ all
+      go (ended g) = absurd (omega arith)
+      go (stop {x = y} g w) = bad p here y w
 
-  pub arrow_bad : (x : Refused) → flow_at ids t at n ≡ Err x → refused x.refusal x.line ≡ all
-  arrow_bad x e = let b = bad_from ids t at n x e in rw b.1 (bad p here x.refusal b.0)
+  module _ {x : Taken (Option Arrows)} (e : taken_by (flow_line ids) t at n ≡ Ok x) where
+    from : TookFrom (flow_line ids) t at n x
+    from = took_from (flow_line ids) t at n x e
 
-  module _ {x : Drawn} (e : flow_at ids t at n ≡ Ok (Some x)) where
-    from : DrawnFrom ids t at n x
-    from = drawn_from ids t at n x e
+    pub arrow_other : x.read ≡ None → got arrows (lines (drop at t)) n ≡ all
+    arrow_other q = other p here (from.line_is ∙ ap Ok q)
 
     pub arrows_fit : n ≤ length t
     arrows_fit = line_fits p here
@@ -127,15 +92,16 @@ module _ {t ids : List ℕ} {all : Got (List ℕ)} {arrows : List ℕ} {at n : �
     pub goes_on : at < x.next
     goes_on = omega (arith, from.next_is)
 
-    pub arrow_one : (v u : ℕ) → x.arrows ≡ One v u → Flowing t ids all (drawn v u arrows) x.next (n + 1)
-    arrow_one v u q = rw from.next_is (one p here v u (from.line_is ∙ rw q))
+    module _ {a : Arrows} (r : x.read ≡ Some a) (v u : ℕ) where
+      pub arrow_one : a ≡ One v u → Flowing t ids all (drawn v u arrows) x.next (n + 1)
+      arrow_one q = rw from.next_is (one p here v u (from.line_is ∙ rw (r, q)))
 
-    pub arrow_two : (v u : ℕ) → x.arrows ≡ Two v u → Flowing t ids all (drawn u v (drawn v u arrows)) x.next (n + 1)
-    arrow_two v u q = rw from.next_is (two p here v u (from.line_is ∙ rw q))
+      pub arrow_two : a ≡ Two v u → Flowing t ids all (drawn u v (drawn v u arrows)) x.next (n + 1)
+      arrow_two q = rw from.next_is (two p here v u (from.line_is ∙ rw (r, q)))
 
-    -- the boxes that it names are known
-    pub one_known : (v u : ℕ) → x.arrows ≡ One v u → (v < length ids) × (u < length ids)
-    one_known v u q = flow_good ids (line_at t at) _ _ (inl (from.line_is ∙ rw q))
+      -- the boxes that it names are known
+      pub one_known : a ≡ One v u → (v < length ids) × (u < length ids)
+      one_known q = flow_good ids (line_at t at) _ _ (inl (from.line_is ∙ rw (r, q)))
 
-    pub two_known : (v u : ℕ) → x.arrows ≡ Two v u → (v < length ids) × (u < length ids)
-    two_known v u q = flow_good ids (line_at t at) _ _ (inr (from.line_is ∙ rw q))
+      pub two_known : a ≡ Two v u → (v < length ids) × (u < length ids)
+      two_known q = flow_good ids (line_at t at) _ _ (inr (from.line_is ∙ rw (r, q)))

@@ -13,8 +13,8 @@ use borrow.Author.Tests.{eqb-true}
 use Rattle.model.specs.Limits.{STATES, ACTIONS, BOXES}
 use Rattle.text.specs.Number.{number, on_number}
 use Rattle.text.specs.Lines.{same}
-use Rattle.sheet.specs.declared.Due.{Due}
-use Rattle.sheet.specs.declared.Due.TheVariants as due
+use Rattle.sheet.specs.Records.{Due}
+use Rattle.sheet.specs.Records as due
 use Rattle.sheet.specs.Words as words
 use Rattle.sheet.specs.Numbers.{Record, said, on_record, four, each, numbers, word, rest, record_of}
 use Rattle.sheet.specs.Records.{sheet_limits, act_limits, go_limits, arrow_limits, view_limits, sized, known, label_good, box_of, sheet_line, box_line, act_line, go_line, arrow_line, view_line, line_due}

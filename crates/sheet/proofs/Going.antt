@@ -13,9 +13,10 @@ use Rattle.text.specs.Lines.{lines, end_of, line_at, Ended}
 use Rattle.text.proofs.Parts.{line_next, no_lines}
 use Rattle.model.specs.declared.refusal.Refused.{Refused}
 use Rattle.sheet.specs.declared.Taken.{Taken}
-use Rattle.sheet.specs.Numbers.{Record, on_record}
+use Rattle.sheet.specs.declared.Numbers.{Numbers}
+use Rattle.sheet.specs.Numbers.{Record, on_record, kept_as}
 use Rattle.sheet.specs.Phases.{Got, got, refused, phase, taken_by}
-use Rattle.sheet.proofs.Taking.{TookFrom, took_from, StoppedFrom, ended, bad, stopped_from}
+use Rattle.sheet.proofs.Taking.{KeptOf, kept_ok, kept_err, TookFrom, took_from, StoppedFrom, ended, bad, stopped_from}
 
 -- the entries below k are read, and what is left at the place gives what the whole run gives
 pub record Going {S : Type 0} (line : ℕ → S → List ℕ → Record) (store : ℕ → S → ℕ → ℕ → ℕ → ℕ → S) (t : List ℕ) (all : Got S) (total k : ℕ) (s : S) (at n : ℕ) : Type 0 where
@@ -46,30 +47,36 @@ module _ {S : Type 0} {line : ℕ → S → List ℕ → Record} {store : ℕ �
     unfolding phase
     none g = (rw (more, no_lines t at g) at p.rest)
 
-    pub stopped : (x : Refused) → taken_by (line k s) t at n ≡ Err x → refused x.refusal x.line ≡ all
-    stopped x e = let w = stopped_from (line k s) t at n x e in rw w.1 (go w.0)
-      where
-        go : {y : Refusal} → StoppedFrom (line k s) t at n y → refused y n ≡ all
-        go (ended g) = none g
-        go (bad g w) = (rw w at (step g))
+    goes_on : {ns : Numbers} {next : ℕ} → at < length t → line k s (line_at t at) ≡ Ok ns → next ≡ end_of 10 t at + 1 → Going line store t all total (k + 1) (store k s ns.first ns.second ns.third ns.fourth) next (n + 1)
+    goes_on w l e = record {
+      closed = p.closed;
+      few = omega (arith, e, p.few);
+      below = omega arith;
+      rest = rw (e, add-one n, add-one k) (rw (l, add-one k) at (step w));
+    }
 
-    module _ {x : Taken} (e : taken_by (line k s) t at n ≡ Ok x) where
-      from : TookFrom (line k s) t at n x
-      from = took_from (line k s) t at n x e
+    -- f is what the reader keeps of the line's record
+    module _ {T : Type 0} (f : ℕ → ℕ → ℕ → ℕ → T) where
+      pub stopped : (x : Refused) → taken_by (λ l. kept_as f (line k s l)) t at n ≡ Err x → refused x.refusal x.line ≡ all
+      stopped x e = let w = stopped_from (λ l. kept_as f (line k s l)) t at n x e in rw w.1 (go w.0)
+        where
+          go : {y : Refusal} → StoppedFrom (λ l. kept_as f (line k s l)) t at n y → refused y n ≡ all
+          go (ended g) = none g
+          go (bad {x = y} g w) = (rw (kept_err f (line k s (line_at t at)) y w) at (step g))
 
-      pub line_fits : n ≤ length t
-      line_fits = omega (arith, from.within, p.few)
+      module _ {x : Taken T} (e : taken_by (λ l. kept_as f (line k s l)) t at n ≡ Ok x) where
+        from : TookFrom (λ l. kept_as f (line k s l)) t at n x
+        from = took_from (λ l. kept_as f (line k s l)) t at n x e
 
-      pub said : line k s (line_at t at) ≡ Ok x.numbers
-      said = from.line_is
+        pub line_fits : n ≤ length t
+        line_fits = omega (arith, from.within, p.few)
 
-      pub few_more : n + 1 ≤ x.next + 1
-      few_more = omega (arith, from.next_is, p.few)
+        pub said : KeptOf f (line k s (line_at t at)) x.read
+        said = kept_ok f (line k s (line_at t at)) x.read from.line_is
 
-      pub took : Going line store t all total (k + 1) (store k s x.numbers.first x.numbers.second x.numbers.third x.numbers.fourth) x.next (n + 1)
-      took = record {
-        closed = p.closed;
-        few = few_more;
-        below = omega arith;
-        rest = rw (from.next_is, add-one n, add-one k) (rw (from.line_is, add-one k) at (step from.within));
-      }
+        pub few_more : n + 1 ≤ x.next + 1
+        few_more = omega (arith, from.next_is, p.few)
+
+        -- s' is the state with what was read
+        pub took : {s' : S} → ((a b c d : ℕ) → x.read ≡ f a b c d → s' ≡ store k s a b c d) → Going line store t all total (k + 1) s' x.next (n + 1)
+        took g = rw (g _ _ _ _ said.read_is) (goes_on from.within said.is from.next_is)

@@ -8,6 +8,7 @@ pub mod ArrowLines
 pub mod First
 pub mod Outcome
 pub mod Places
+pub mod Placed
 pub mod Inside
 pub mod LabelPlace
 pub mod Sound

@@ -12,7 +12,7 @@ use Rattle.sheet.specs.Numbers.{Record, said, on_record}
 use Rattle.sheet.specs.Phases.{Got, got, refused}
 use Rattle.sheet.specs.Table.{by_rows, arrow_says}
 use Rattle.sheet.specs.Table as rule
-use Rattle.sheet.specs.declared.Due.TheVariants as due
+use Rattle.sheet.specs.Records as due
 use Rattle.sheet.specs.Meaning.{Situation, at_sheet, at_box, at_act, at_go, at_flow, at_view, at_end, is_arrow, rows_at, says_at, after, complete, Refused, ended, bad, good}
 use Rattle.sheet.proofs.ByRows.{row_decides, decides_row, no_row, row_none}
 

@@ -3,7 +3,7 @@ use Rattle.std.proofs.Math.ListN.{get_or-eq_default}
 use Rattle.std.proofs.Common.{drop-drop}
 use Rattle.std.proofs.lemmas.List.{take-append-drop}
 use Rattle.std.specs.Prelude.{Ok, Option, Some, None}
-use Prim.Native.Nat.{ℕ, zero, suc, ◌+◌, ◌-◌, ◌<◌}
+use Prim.Native.Nat.{ℕ, suc, ◌+◌, ◌-◌, ◌<◌}
 use mathlib.Core.Path.{◌≡◌, refl, sym, ap, ◌∙◌}
 use mathlib.Core.List.{List, [], ◌∷◌, ◌++◌, append_assoc}
 use mathlib.Core.Bool.{Bool, true, false, cond}
@@ -21,10 +21,10 @@ use Rattle.text.proofs.Parts as parts
 use Rattle.sheet.specs.declared.Digits.{Digits}
 use Rattle.sheet.specs.declared.Arrows.TheVariants as arrow
 use Rattle.sheet.specs.Words as words
-use Rattle.sheet.specs.Numbers.{said, four, each, numbers, word, record_of}
+use Rattle.sheet.specs.Numbers.{as_step, as_class, said, four, each, numbers, word, record_of}
 use Rattle.sheet.specs.Records.{go_limits, view_limits, arrow_limits, go_line, view_line, arrow_line, flow_line}
 use Rattle.sheet.specs.Phases.{taken, taken_by}
-use Rattle.sheet.specs.OnePass.{drawn_to, Standing, NumberAt, MoreAt, NumberRead, MoreRead, Begins, ArrowAt, ArrowRead, flow_at}
+use Rattle.sheet.specs.OnePass.{Standing, NumberAt, MoreAt, NumberRead, MoreRead, Begins, ArrowAt, ArrowRead}
 
 -- ---- places in a text that ends in LF
 module _ {t : List ℕ} (q : Ended t) where
@@ -99,11 +99,6 @@ word_begins t w rest at b e p n = go (eqb b 9) refl
 -- ---- plain bytes: no tab and no LF
 abbrev pub Plain : List ℕ → Type 0
 Plain f = All (λ x. 10 < x) f
-
-pub plain_at : (f : List ℕ) (i : ℕ) → Plain f → i < length f → 10 < get_or f i 0
-plain_at [] i p h = absurd (omega arith)
-plain_at (x ∷ xs) zero p h = p.0
-plain_at (x ∷ xs) (suc i) p h = plain_at xs i p.1 (omega arith)
 
 digit_plain : (limit v d w : ℕ) → digit limit v d ≡ Some w → 10 < d
 digit_plain limit v d w g = go (dec_lt d 48)
@@ -246,12 +241,12 @@ module _ {t w ms vs : List ℕ} {at b next : ℕ} (p : Plain w) (s : Standing t 
   }
 
 -- ---- the lines that are due
-pub quick_go : {t : List ℕ} {at s a x o next : ℕ} (states state action : ℕ) → LineIs t words.go go_limits at (s ∷ a ∷ x ∷ o ∷ []) next → s ≡ state → a ≡ action → x < states → (n : ℕ) → taken_by (go_line states state action) t at n ≡ Ok (taken s a x o next)
+pub quick_go : {t : List ℕ} {at s a x o next : ℕ} (states state action : ℕ) → LineIs t words.go go_limits at (s ∷ a ∷ x ∷ o ∷ []) next → s ≡ state → a ≡ action → x < states → (n : ℕ) → taken_by (λ l. as_step (go_line states state action l)) t at n ≡ Ok (taken (x, o) next)
 unfolding go_line
 quick_go {t} {at} {s} {a} {x} {o} {next} states state action p e f g n =
     rw (lt-ltb at (length t) p.within, p.says, eq-eqb s state e, eq-eqb a action f, lt-ltb x states g, p.next_is)
 
-pub quick_view : {t : List ℕ} {at i s x next : ℕ} (id state : ℕ) → LineIs t words.view view_limits at (i ∷ s ∷ x ∷ []) next → i ≡ id → s ≡ state → (n : ℕ) → taken_by (view_line id state) t at n ≡ Ok (taken i s x 0 next)
+pub quick_view : {t : List ℕ} {at i s x next : ℕ} (id state : ℕ) → LineIs t words.view view_limits at (i ∷ s ∷ x ∷ []) next → i ≡ id → s ≡ state → (n : ℕ) → taken_by (λ l. as_class (view_line id state l)) t at n ≡ Ok (taken x next)
 unfolding view_line
 quick_view {t} {at} {i} {s} {x} {next} id state p e f n =
     rw (lt-ltb at (length t) p.within, p.says, eq-eqb i id e, eq-eqb s state f, p.next_is)
@@ -265,16 +260,16 @@ module _ {t ids : List ℕ} {at b v u next : ℕ} (w : List ℕ) (plain : Plain 
   unfolding arrow_line
   arrow_says_lem = rw (arrow_line_lem.says, ← a.from_is, ← a.to_is, lt-ltb v (length ids) a.from_known, lt-ltb u (length ids) a.to_known)
 
-pub quick_one : (ids t : List ℕ) (at b : ℕ) (r : Option (ℕ × ℕ × ℕ)) {x : ℕ × ℕ × ℕ} → Standing t 9 at words.flow b → r ≡ Some x → ArrowRead ids t b r → (n : ℕ) → flow_at ids t at n ≡ Ok (Some (drawn_to (arrow.One x.0 x.1) x.2))
+pub quick_one : (ids t : List ℕ) (at b : ℕ) (r : Option (ℕ × ℕ × ℕ)) {x : ℕ × ℕ × ℕ} → Standing t 9 at words.flow b → r ≡ Some x → ArrowRead ids t b r → (n : ℕ) → taken_by (flow_line ids) t at n ≡ Ok (taken (Some (arrow.One x.0 x.1)) x.2)
 unfolding flow_line same
 quick_one ids t at b r s e p n =
     let a = (rw e at p) in
     let k : Plain words.flow = (omega arith, (omega arith, (omega arith, (omega arith, tt)))) in
-    rw ((arrow_line_lem words.flow k s a).word_is, arrow_says_lem words.flow k s a, (arrow_line_lem words.flow k s a).next_is)
+    rw (lt-ltb at (length t) (arrow_line_lem words.flow k s a).within, (arrow_line_lem words.flow k s a).word_is, arrow_says_lem words.flow k s a, (arrow_line_lem words.flow k s a).next_is)
 
-pub quick_two : (ids t : List ℕ) (at b : ℕ) (r : Option (ℕ × ℕ × ℕ)) {x : ℕ × ℕ × ℕ} → Standing t 9 at words.both b → r ≡ Some x → ArrowRead ids t b r → (n : ℕ) → flow_at ids t at n ≡ Ok (Some (drawn_to (arrow.Two x.0 x.1) x.2))
+pub quick_two : (ids t : List ℕ) (at b : ℕ) (r : Option (ℕ × ℕ × ℕ)) {x : ℕ × ℕ × ℕ} → Standing t 9 at words.both b → r ≡ Some x → ArrowRead ids t b r → (n : ℕ) → taken_by (flow_line ids) t at n ≡ Ok (taken (Some (arrow.Two x.0 x.1)) x.2)
 unfolding flow_line same
 quick_two ids t at b r s e p n =
     let a = (rw e at p) in
     let k : Plain words.both = (omega arith, (omega arith, (omega arith, (omega arith, tt)))) in
-    rw ((arrow_line_lem words.both k s a).word_is, arrow_says_lem words.both k s a, (arrow_line_lem words.both k s a).next_is)
+    rw (lt-ltb at (length t) (arrow_line_lem words.both k s a).within, (arrow_line_lem words.both k s a).word_is, arrow_says_lem words.both k s a, (arrow_line_lem words.both k s a).next_is)

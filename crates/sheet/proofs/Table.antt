@@ -17,7 +17,7 @@ use Rattle.model.specs.Good.{GoodSizes}
 use Rattle.model.specs.declared.Sizes.{Sizes}
 use Rattle.text.specs.Lines.{lines}
 use Rattle.model.specs.Arrows.{selves}
-use Rattle.sheet.specs.declared.Due.TheVariants as due
+use Rattle.sheet.specs.Records as due
 use Rattle.sheet.specs.Numbers.{Record, on_record}
 use Rattle.sheet.specs.Records.{sized, sheet_line}
 use Rattle.sheet.specs.Phases.{Got, got, refused, Steps, steps, boxes, acts, goes, flows, views}

@@ -12,7 +12,7 @@ use Rattle.model.specs.Limits.{BOXES, ACTIONS}
 use Rattle.model.specs.declared.Sizes.{Sizes}
 use Rattle.text.specs.Lines.{same}
 use Rattle.model.specs.Arrows.{drawn}
-use Rattle.sheet.specs.declared.Due.TheVariants as due
+use Rattle.sheet.specs.Records as due
 use Rattle.sheet.specs.declared.Arrows.TheVariants as flow
 use Rattle.sheet.specs.Words as words
 use Rattle.sheet.specs.Numbers.{Record, on_record, word}

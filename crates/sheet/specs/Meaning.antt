@@ -6,7 +6,7 @@ use Rattle.model.specs.declared.Sizes.{Sizes}
 use Rattle.text.specs.Lines.{lines, same}
 use Rattle.model.specs.declared.refusal.Refusal.{Refusal}
 use Rattle.model.specs.declared.refusal.Refusal.TheVariants as why
-use Rattle.sheet.specs.declared.Due.TheVariants as due
+use Rattle.sheet.specs.Records as due
 use Rattle.sheet.specs.Words as words
 use Rattle.sheet.specs.Numbers.{Record, said, word}
 use Rattle.sheet.specs.Records.{arrow_limits, sized}

@@ -1,16 +1,11 @@
 -- What reading in one pass promises: where it answers, the exact way would answer the same.
-use Rattle.std.specs.Prelude.{ℕ, ◌+◌, ◌<◌, ◌≡◌, List, ◌∷◌, ◌++◌, Bool, true, false, length, drop, Result, Ok, Err, Option, Some, None}
+use Rattle.std.specs.Prelude.{ℕ, ◌+◌, ◌<◌, ◌≡◌, List, ◌∷◌, ◌++◌, Bool, true, false, length, drop, Result, Ok, Option, Some, None}
 use Rattle.model.specs.Limits.{LARGEST_ID}
 use Rattle.text.specs.Number.{number, more}
-use Rattle.text.specs.Lines.{end_of, line_at}
 use Rattle.sheet.specs.declared.Digits.{Digits}
-use Rattle.sheet.specs.declared.Drawn.{Drawn}
-use Rattle.sheet.specs.declared.Arrows.{Arrows}
-use Rattle.sheet.specs.declared.Arrows.TheVariants as arrows
 use Rattle.sheet.specs.declared.Taken.{Taken}
 use Rattle.model.specs.declared.refusal.Refused.{Refused}
-use Rattle.model.specs.Refusal.{refused_as}
-use Rattle.sheet.specs.Records.{position, flow_line, on_flow}
+use Rattle.sheet.specs.Records.{position}
 
 -- the bytes stand at a place of a text, with the byte `stop` behind them
 pub record Standing (t : List ℕ) (stop at : ℕ) (bytes : List ℕ) (next : ℕ) : Type 0 where
@@ -43,7 +38,7 @@ Begins t at word true = Standing t 9 at word (at + length word + 1)
 Begins t at word false = Unit {0}
 
 -- a line that was taken is the one that the exact way takes, whatever its number
-abbrev pub Quickly : (ℕ → Result Taken Refused) → Option Taken → Type 0
+abbrev pub Quickly : {T : Type 0} → (ℕ → Result (Taken T) Refused) → Option (Taken T) → Type 0
 Quickly f (Some x) = (n : ℕ) → f n ≡ Ok x
 Quickly f None = Unit {0}
 
@@ -62,15 +57,3 @@ pub record ArrowAt (ids t : List ℕ) (at v u next : ℕ) : Type 0 where
 abbrev pub ArrowRead : List ℕ → List ℕ → ℕ → Option (ℕ × ℕ × ℕ) → Type 0
 ArrowRead ids t at (Some x) = ArrowAt ids t at x.0 x.1 x.2
 ArrowRead ids t at None = Unit {0}
-
-abbrev pub drawn_to : Arrows → ℕ → Drawn
-drawn_to a next = record { arrows = a; next = next }
-
--- what the line at a place, which has the number n, says of arrows, with the place after it
-abbrev pub flow_at : List ℕ → List ℕ → ℕ → ℕ → Result (Option Drawn) Refused
-flow_at ids t at n =
-    on_flow (flow_line ids (line_at t at)) (λ v u. Ok (Some (drawn_to (arrows.One v u) (end_of 10 t at + 1)))) (λ v u. Ok (Some (drawn_to (arrows.Two v u) (end_of 10 t at + 1)))) (λ e. Err (refused_as e n)) (Ok None)
-
-abbrev pub QuickFlow : (ℕ → Result (Option Drawn) Refused) → Option Drawn → Type 0
-QuickFlow f (Some x) = (n : ℕ) → f n ≡ Ok (Some x)
-QuickFlow f None = Unit {0}

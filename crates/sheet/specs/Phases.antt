@@ -1,5 +1,5 @@
 -- Runs of lines of one kind.
-use Rattle.std.specs.Prelude.{ℕ, zero, suc, ◌+◌, ◌*◌, ◌/◌, ◌%◌, List, [], ◌∷◌, cond, length, get_or, set, take, drop, replicate, ltb, Result, Ok, Err}
+use Rattle.std.specs.Prelude.{ℕ, zero, suc, ◌≡◌, ◌⊎◌, ◌<◌, ◌≤◌, ◌+◌, ◌*◌, ◌/◌, ◌%◌, List, [], ◌∷◌, cond, length, get_or, set, take, drop, replicate, ltb, Result, Ok, Err}
 use Rattle.model.specs.Arrows.{drawn}
 use Rattle.model.specs.Limits.{ACTIONS, BOXES}
 use Rattle.text.specs.Lines.{lines, end_of, line_at}
@@ -68,16 +68,23 @@ abbrev pub views : List ℕ → ℕ → List ℕ → List (List ℕ) → ℕ →
 views ids states =
     phase (λ k _. view_line (get_or ids (k / states) 0) (k % states)) (λ k t _ _ class _. set t k class) (length ids * states) 0
 
--- a record, with the place after its line
-abbrev pub taken : ℕ → ℕ → ℕ → ℕ → ℕ → Taken
-taken a b c d next = record { numbers = record { first = a; second = b; third = c; fourth = d }; next = next }
+-- what a line says, with the place after it; or why it is refused, with its number
+abbrev pub taken : {T : Type 0} → T → ℕ → Taken T
+taken x next = record { read = x; next = next }
+
+abbrev pub taken_from : {T : Type 0} → Result T Refusal → ℕ → ℕ → Result (Taken T) Refused
+taken_from (Ok x) next n = Ok (taken x next)
+taken_from (Err e) next n = Err (refused_as e n)
 
 -- the line at a place of a text, which has the number n, as the code takes it; `Ended` where the text has no line more
-abbrev pub taken_by : (List ℕ → Record) → List ℕ → ℕ → ℕ → Result Taken Refused
+abbrev pub taken_by : {T : Type 0} → (List ℕ → Result T Refusal) → List ℕ → ℕ → ℕ → Result (Taken T) Refused
 taken_by line t at n =
-    cond (ltb at (length t))
-    (on_record (line (line_at t at)) (λ a b c d. Ok (taken a b c d (end_of 10 t at + 1))) (λ e. Err (refused_as e n)))
-    (Err (refused_as why.Ended n))
+    cond (ltb at (length t)) (taken_from (line (line_at t at)) (end_of 10 t at + 1) n) (Err (refused_as why.Ended n))
+
+-- the same by a reader of which is known what it may say of a line
+pub record TakenBy {T : Type 0} (says : List ℕ → Result T Refusal → Type 0) (t : List ℕ) (at n : ℕ) (r : Result (Taken T) Refused) : Type 0 where
+  pub was : ((length t ≤ at) × (r ≡ Err (refused_as why.Ended n)))
+      ⊎ ((at < length t) × (x : Result T Refusal) × says (line_at t at) x × (r ≡ taken_from x (end_of 10 t at + 1) n))
 
 -- what the code's answer and what it read say of a text
 abbrev pub told : {S : Type 0} → Result Cursor Refused → List ℕ → S → Got S

@@ -5,8 +5,6 @@ use Rattle.text.specs.Number.{number, on_number}
 use Rattle.text.specs.Lines.{before, same}
 use Rattle.model.specs.declared.refusal.Refusal.{Refusal}
 use Rattle.model.specs.declared.refusal.Refusal.TheVariants as why
-use Rattle.sheet.specs.declared.Due.{Due}
-use Rattle.sheet.specs.declared.Due.TheVariants as due
 use Rattle.sheet.specs.declared.Arrows.{Arrows}
 use Rattle.sheet.specs.declared.Arrows.TheVariants as flow
 use Rattle.sheet.specs.Words as words
@@ -22,6 +20,9 @@ position ids id = before id ids
 
 abbrev pub known : List ℕ → ℕ → Bool
 known ids id = ltb (position ids id) (length ids)
+
+abbrev pub placed : List ℕ → ℕ → Option ℕ
+placed ids id = cond (known ids id) (Some (position ids id)) None
 
 -- every byte is 0x20 to 0x7E
 unfoldable pub plain : List ℕ → Bool
@@ -120,10 +121,18 @@ view_line id state l =
     (λ i s class _. cond (eqb i id) (cond (eqb s state) (said i s class 0) (Err why.Order)) (Err why.UnknownId))
     Err
 
+-- a kind of line that is due
+pub data Due : Type 0 where
+  Sheet : Due
+  Box : Due
+  Act : Due
+  Go : ℕ → ℕ → ℕ → Due
+  View : ℕ → ℕ → Due
+
 -- the line that is due, after boxes with the ids given
 abbrev pub line_due : Due → List ℕ → List ℕ → Record
-line_due due.Sheet ids = sheet_line
-line_due due.Box ids = box_line ids
-line_due due.Act ids = act_line ids
-line_due (due.Go states state action) ids = go_line states state action
-line_due (due.View id state) ids = view_line id state
+line_due Sheet ids = sheet_line
+line_due Box ids = box_line ids
+line_due Act ids = act_line ids
+line_due (Go states state action) ids = go_line states state action
+line_due (View id state) ids = view_line id state

@@ -5,11 +5,10 @@ use Rattle.text.specs.Number.{number, on_number}
 use Rattle.text.specs.Lines.{same}
 use Rattle.model.specs.declared.refusal.Refusal.{Refusal}
 use Rattle.model.specs.declared.refusal.Refusal.TheVariants as why
-use Rattle.sheet.specs.declared.Due.{Due}
-use Rattle.sheet.specs.declared.Due.TheVariants as due
+use Rattle.sheet.specs.Records as due
 use Rattle.sheet.specs.Words as words
 use Rattle.sheet.specs.Numbers.{Record, said, word, rest}
-use Rattle.sheet.specs.Records.{sheet_limits, act_limits, go_limits, arrow_limits, view_limits, sized, known, position, label_good}
+use Rattle.sheet.specs.Records.{Due, sheet_limits, act_limits, go_limits, arrow_limits, view_limits, sized, known, position, label_good}
 
 -- a row: a refusal, and whether the line gives cause for it
 pub record Row : Type 0 where

@@ -1,33 +1,35 @@
 // Where the label of a box stands in a text.
 ghost use Rattle.std.specs.Prelude.{◌≡◌, ◌+◌, ◌<◌, length};
 ghost use Rattle.model.specs.Limits.{BOXES};
-ghost use Rattle.text.specs.Lines.{lines, line_at, Ended};
+ghost use Rattle.text.specs.Lines.{lines, line_at};
 ghost use Rattle.sheet.specs.Numbers.{rest};
 ghost use Rattle.sheet.specs.Label.{line_start, box_start, label_place, label_found};
 
-use super::Place;
+use super::{Place, Sheet};
 use model::{Refusal, Refused};
 
 // Where line `index` starts, counted from 0.
-fn line_start(text: &[u8], index: usize) -> usize
-    requires { Ended text.now × (index < length (lines text.now)) }
-    ensures { result ≡ line_start index text.now }
+fn line_start(sheet: Sheet<'_>, index: usize) -> usize
+    requires { index < length (lines sheet.text.now) }
+    ensures { result ≡ line_start index sheet.entry.text.now }
 {
     let mut at = 0;
     for k in 0..index {
-        at = text::find(text, at, b'\n') + 1;
+        at = text::find(sheet.text, at, b'\n') + 1;
     }
     at
 }
 
 // Where the label of a `box` line stands that has three fields.
-fn label_place(text: &[u8], position: usize) -> Place
-    requires { Ended text.now × (position < BOXES) × (position + 1 < length (lines text.now)) × (length (rest (line_at text.now (box_start text.now position))) ≡ 2) }
-    ensures { result ≡ label_place text.now position }
+fn label_place(sheet: Sheet<'_>, position: usize) -> Place
+    requires small { position < BOXES }
+    requires there { position + 1 < length (lines sheet.text.now) }
+    requires three_fields { length (rest (line_at sheet.text.now (box_start sheet.text.now position))) ≡ 2 }
+    ensures { result ≡ label_place sheet.entry.text.now position }
 {
-    let start = line_start(text, position + 1);
-    let end = text::find(text, start, b'\n');
-    let line = &text[start..end];
+    let start = line_start(sheet, position + 1);
+    let end = text::find(sheet.text, start, b'\n');
+    let line = &sheet.text[start..end];
     let word = text::find(line, 0, b'\t');
     let id = text::find(line, word + 1, b'\t');
     Place {
@@ -45,7 +47,7 @@ pub(crate) fn label_found(text: &[u8], position: usize) -> Result<Place, Refused
     let mut views = [0u16; model::VIEW_ENTRIES];
     let model = super::read_text(text, &mut next, &mut outputs, &mut views)?;
     if position < model.machine.sizes.boxes {
-        Ok(label_place(text, position))
+        Ok(label_place(Sheet { text }, position))
     } else {
         Err(Refused {
             refusal: Refusal::Range,

@@ -9,15 +9,16 @@ mod quick;
 
 ghost use Rattle.std.specs.Prelude.{◌≡◌, length};
 ghost use Rattle.model.specs.Limits.{NEXT_ENTRIES, OUTPUT_ENTRIES, VIEW_ENTRIES};
-ghost use Rattle.text.specs.Lines.{lines, Ended};
+ghost use Rattle.text.specs.Lines.{lines};
 ghost use Rattle.sheet.specs.Phases.{steps};
 ghost use Rattle.sheet.specs.Reading.{zeros, reading_of, sheet_lines, sheet_text, outcome, read};
 ghost use Rattle.sheet.specs.Label.{label, Handed};
 
 pub use cursor::Cursor;
-use model::{Model, Refusal, Refused, Sizes};
+use cursor::{Ids, Sheet};
+use model::{Model, Refusal, Refused};
 
-// The numbers of a record, 0 beyond its count.
+// The numbers of a record, 0 beyond its count. Four, since the definition `Record` has four, of which the theorems on the refusal table speak.
 #[derive(Clone, Copy)]
 pub struct Numbers {
     pub first: u32,
@@ -26,41 +27,17 @@ pub struct Numbers {
     pub fourth: u32,
 }
 
-// The line that is due.
-#[derive(Clone, Copy)]
-pub enum Due {
-    Sheet,
-    Box,
-    Act,
-    Go {
-        states: u32,
-        state: u32,
-        action: u32,
-    },
-    View {
-        id: u32,
-        state: u32,
-    },
-}
-
 // What a line of arrows says: one, or two.
 #[derive(Clone, Copy)]
 pub enum Arrows {
-    One(u32, u32),
-    Two(u32, u32),
+    One(usize, usize),
+    Two(usize, usize),
 }
 
-// A record, with the place after its line.
+// What a line says, with the place after it.
 #[derive(Clone, Copy)]
-pub struct Taken {
-    pub numbers: Numbers,
-    pub next: usize,
-}
-
-// The arrows of a line, with the place after it.
-#[derive(Clone, Copy)]
-pub struct Drawn {
-    pub arrows: Arrows,
+pub struct Taken<T> {
+    pub read: T,
     pub next: usize,
 }
 
@@ -87,46 +64,37 @@ pub struct Place {
 
 // The lines of a text that ends in LF.
 fn read_lines(
-    text: &[u8],
-    next: &mut [u16],
-    outputs: &mut [u16],
-    views: &mut [u16],
+    sheet: Sheet<'_>,
+    next: &mut [u16; model::NEXT_ENTRIES],
+    outputs: &mut [u16; model::OUTPUT_ENTRIES],
+    views: &mut [u16; model::VIEW_ENTRIES],
 ) -> Result<Model, Refused>
-    requires ended { Ended text.now }
-    requires lengths { (length next.old ≡ NEXT_ENTRIES) × (length outputs.old ≡ OUTPUT_ENTRIES) × (length views.old ≡ VIEW_ENTRIES) }
-    ensures { reading_of result (steps next.new outputs.new) views.new ≡ sheet_lines (steps next.old outputs.old) views.old (lines text.now) }
+    ensures { reading_of result (steps next.new outputs.new) views.new ≡ sheet_lines (steps next.old outputs.old) views.old (lines sheet.entry.text.now) }
 {
     let first = Cursor { at: 0, line: 1 };
-    // no id is known yet
-    let none = [0u32; 1];
-    let taken = phases::take_due(text, first, Due::Sheet, &none[0..0])?;
-    let numbers = taken.numbers;
-    let sizes = Sizes::new(
-        numbers.first as usize,
-        numbers.second as usize,
-        numbers.third as usize,
-        numbers.fourth as usize,
-    );
+    let taken = phases::take(sheet, first, lines::sheet_line)?;
     let second = Cursor {
         at: taken.next,
         line: 2,
     };
-    phases::read_body(text, second, sizes, next, outputs, views)
+    phases::read_body(sheet, second, taken.read, next, outputs, views)
 }
 
 // A text over tables that are zero.
 fn read_text(
     text: &[u8],
-    next: &mut [u16],
-    outputs: &mut [u16],
-    views: &mut [u16],
+    next: &mut [u16; model::NEXT_ENTRIES],
+    outputs: &mut [u16; model::OUTPUT_ENTRIES],
+    views: &mut [u16; model::VIEW_ENTRIES],
 ) -> Result<Model, Refused>
-    requires { (next.old ≡ zeros NEXT_ENTRIES) × (outputs.old ≡ zeros OUTPUT_ENTRIES) × (views.old ≡ zeros VIEW_ENTRIES) }
+    requires next_zero { next.old ≡ zeros NEXT_ENTRIES }
+    requires outputs_zero { outputs.old ≡ zeros OUTPUT_ENTRIES }
+    requires views_zero { views.old ≡ zeros VIEW_ENTRIES }
     ensures { reading_of result (steps next.new outputs.new) views.new ≡ sheet_text text.now }
 {
     let n = text.len();
     if 0 < n && n <= model::SHEET_BYTES && text[n - 1] == b'\n' {
-        read_lines(text, next, outputs, views)
+        read_lines(Sheet { text }, next, outputs, views)
     } else {
         Err(Refused {
             refusal: Refusal::Text,
@@ -136,8 +104,11 @@ fn read_text(
 }
 
 // The three tables made 0.
-fn zero_all(next: &mut [u16], outputs: &mut [u16], views: &mut [u16])
-    requires { (length next.old ≡ NEXT_ENTRIES) × (length outputs.old ≡ OUTPUT_ENTRIES) × (length views.old ≡ VIEW_ENTRIES) }
+fn zero_all(
+    next: &mut [u16; model::NEXT_ENTRIES],
+    outputs: &mut [u16; model::OUTPUT_ENTRIES],
+    views: &mut [u16; model::VIEW_ENTRIES],
+)
     ensures { (next.new ≡ zeros NEXT_ENTRIES) × (outputs.new ≡ zeros OUTPUT_ENTRIES) × (views.new ≡ zeros VIEW_ENTRIES) }
 {
     next.fill(0);
@@ -155,15 +126,15 @@ pub fn read(
 ) -> Result<Model, Refused>
     ensures { outcome result next.new outputs.new views.new ≡ read text.now next.old outputs.old views.old }
 {
-    if next.len() != model::NEXT_ENTRIES
-        || outputs.len() != model::OUTPUT_ENTRIES
-        || views.len() != model::VIEW_ENTRIES
-    {
-        return Err(Refused {
-            refusal: Refusal::Length,
-            line: 0,
-        });
-    }
+    let Some(next) = next.as_mut_array() else {
+        return Err(Refusal::Length.into());
+    };
+    let Some(outputs) = outputs.as_mut_array() else {
+        return Err(Refusal::Length.into());
+    };
+    let Some(views) = views.as_mut_array() else {
+        return Err(Refusal::Length.into());
+    };
     zero_all(next, outputs, views);
     let model = read_text(text, next, outputs, views);
     if model.is_err() {

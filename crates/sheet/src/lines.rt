@@ -1,12 +1,11 @@
 // The lines of a sheet, each by itself.
 ghost use Rattle.std.specs.Prelude.{◌≡◌, ◌≤◌, length};
-ghost use Rattle.model.specs.Limits.{BOXES};
 ghost use Rattle.text.specs.Lines.{fields_at};
-ghost use Rattle.sheet.specs.Numbers.{record_of, numbers};
-ghost use Rattle.sheet.specs.Records.{sized, position, label_good, plain, sheet_line, box_line, act_line, go_line, arrow_line, view_line, box_of, box_fields, flow_line, line_due};
+ghost use Rattle.sheet.specs.Numbers.{record_of, numbers, as_sizes, as_first, as_step, as_pair, as_class};
+ghost use Rattle.sheet.specs.Records.{sized, placed, label_good, plain, sheet_line, box_line, act_line, go_line, arrow_line, view_line, box_of, box_fields, flow_line};
 
-use super::{Arrows, Due, Numbers};
-use model::Refusal;
+use super::{Arrows, Numbers};
+use model::{Refusal, Sizes};
 
 // The numbers in the fields from `from` on: as many as there are limits, each up to its own.
 fn numbers_from(line: &[u8], from: usize, limits: &[u32]) -> Result<Numbers, Refusal>
@@ -45,18 +44,6 @@ fn numbers_from(line: &[u8], from: usize, limits: &[u32]) -> Result<Numbers, Ref
     }
 }
 
-// A record of one number.
-fn one(n: u32) -> Numbers
-    ensures { result ≡ record { first = n; second = 0; third = 0; fourth = 0 } }
-{
-    Numbers {
-        first: n,
-        second: 0,
-        third: 0,
-        fourth: 0,
-    }
-}
-
 // A record of the word and as many numbers as there are limits.
 fn record_of(line: &[u8], word: &[u8], limits: &[u32]) -> Result<Numbers, Refusal>
     requires { length limits.now ≤ 4 }
@@ -69,16 +56,11 @@ fn record_of(line: &[u8], word: &[u8], limits: &[u32]) -> Result<Numbers, Refusa
     }
 }
 
-// The position of an id among those given; their count where it is none of them.
-pub(crate) fn position(ids: &[u32], id: u32) -> usize
-    ensures { result ≡ position ids.now id }
+// The position of the box with an id; none where no box has it.
+pub(crate) fn position(ids: &[u32], id: u32) -> Option<usize>
+    ensures { result ≡ placed ids.now id }
 {
-    for (k, known) in ids.iter().enumerate() {
-        if *known == id {
-            return k;
-        }
-    }
-    ids.len()
+    ids.iter().position(|known| *known == id)
 }
 
 // Is a size 1 to its limit.
@@ -102,8 +84,8 @@ fn label_good(label: &[u8]) -> bool
     0 < label.len() && label.len() <= model::LABEL_BYTES && plain(label)
 }
 
-fn sheet_line(line: &[u8]) -> Result<Numbers, Refusal>
-    ensures { result ≡ sheet_line line.now }
+pub(crate) fn sheet_line(line: &[u8]) -> Result<Sizes, Refusal>
+    ensures { result ≡ as_sizes (sheet_line line.now) }
 {
     let n = model::LARGEST_NUMBER;
     let numbers = record_of(line, b"sheet", &[n, n, n, n])?;
@@ -112,7 +94,12 @@ fn sheet_line(line: &[u8]) -> Result<Numbers, Refusal>
         && sized(model::BOXES, numbers.third)
     {
         if numbers.fourth < numbers.first {
-            Ok(numbers)
+            Ok(Sizes::new(
+                numbers.first as usize,
+                numbers.second as usize,
+                numbers.third as usize,
+                numbers.fourth as usize,
+            ))
         } else {
             Err(Refusal::Order)
         }
@@ -122,22 +109,22 @@ fn sheet_line(line: &[u8]) -> Result<Numbers, Refusal>
 }
 
 // The id and the label of a box, after boxes with the ids given.
-fn box_of(number: Option<u32>, label: &[u8], ids: &[u32]) -> Result<Numbers, Refusal>
-    ensures { result ≡ box_of ids.now number label.now }
+fn box_of(number: Option<u32>, label: &[u8], ids: &[u32]) -> Result<u32, Refusal>
+    ensures { result ≡ as_first (box_of ids.now number label.now) }
 {
     let id = number.ok_or(Refusal::Number)?;
-    if position(ids, id) < ids.len() {
+    if position(ids, id).is_some() {
         Err(Refusal::SameId)
     } else if label_good(label) {
-        Ok(one(id))
+        Ok(id)
     } else {
         Err(Refusal::Label)
     }
 }
 
 // The two fields of a box from `from` on.
-fn box_from(line: &[u8], from: usize, ids: &[u32]) -> Result<Numbers, Refusal>
-    ensures { result ≡ box_fields ids.now (fields_at line.now from) }
+fn box_from(line: &[u8], from: usize, ids: &[u32]) -> Result<u32, Refusal>
+    ensures { result ≡ as_first (box_fields ids.now (fields_at line.now from)) }
 {
     if line.len() < from {
         return Err(Refusal::Fields);
@@ -156,8 +143,8 @@ fn box_from(line: &[u8], from: usize, ids: &[u32]) -> Result<Numbers, Refusal>
     box_of(number, &line[start..], ids)
 }
 
-fn box_line(line: &[u8], ids: &[u32]) -> Result<Numbers, Refusal>
-    ensures { result ≡ box_line ids.now line.now }
+pub(crate) fn box_line(line: &[u8], ids: &[u32]) -> Result<u32, Refusal>
+    ensures { result ≡ as_first (box_line ids.now line.now) }
 {
     if text::starts(line, b"box") {
         box_from(line, 4, ids)
@@ -166,69 +153,57 @@ fn box_line(line: &[u8], ids: &[u32]) -> Result<Numbers, Refusal>
     }
 }
 
-fn act_line(line: &[u8], ids: &[u32]) -> Result<Numbers, Refusal>
-    requires { length ids.now ≤ BOXES }
-    ensures { result ≡ act_line ids.now line.now }
+pub(crate) fn act_line(line: &[u8], ids: &[u32]) -> Result<usize, Refusal>
+    ensures { result ≡ as_first (act_line ids.now line.now) }
 {
     let numbers = record_of(line, b"act", &[model::LARGEST_ID])?;
-    let p = position(ids, numbers.first);
-    if p < ids.len() {
-        Ok(one(p as u32))
-    } else {
-        Err(Refusal::UnknownId)
-    }
+    position(ids, numbers.first).ok_or(Refusal::UnknownId)
 }
 
-fn go_line(line: &[u8], states: u32, state: u32, action: u32) -> Result<Numbers, Refusal>
-    ensures { result ≡ go_line states state action line.now }
+pub(crate) fn go_line(
+    line: &[u8],
+    states: u32,
+    state: u32,
+    action: u32,
+) -> Result<(u32, u32), Refusal>
+    ensures { result ≡ as_step (go_line states state action line.now) }
 {
     let n = model::LARGEST_NUMBER;
     let numbers = record_of(line, b"go", &[n, n, n, n])?;
     if numbers.first == state && numbers.second == action && numbers.third < states {
-        Ok(numbers)
+        Ok((numbers.third, numbers.fourth))
     } else {
         Err(Refusal::Order)
     }
 }
 
-fn arrow_line(line: &[u8], word: &[u8], ids: &[u32]) -> Result<Numbers, Refusal>
-    requires { length ids.now ≤ BOXES }
-    ensures { result ≡ arrow_line word.now ids.now line.now }
+fn arrow_line(line: &[u8], word: &[u8], ids: &[u32]) -> Result<(usize, usize), Refusal>
+    ensures { result ≡ as_pair (arrow_line word.now ids.now line.now) }
 {
     let limits = [model::LARGEST_ID, model::LARGEST_ID];
     let numbers = record_of(line, word, &limits)?;
-    let v = position(ids, numbers.first);
-    let u = position(ids, numbers.second);
-    if v < ids.len() && u < ids.len() {
-        Ok(Numbers {
-            first: v as u32,
-            second: u as u32,
-            third: 0,
-            fourth: 0,
-        })
-    } else {
-        Err(Refusal::UnknownId)
-    }
+    let v = position(ids, numbers.first).ok_or(Refusal::UnknownId)?;
+    let u = position(ids, numbers.second).ok_or(Refusal::UnknownId)?;
+    Ok((v, u))
 }
 
 // A `flow` or a `both` line; none where it is another line.
 pub(crate) fn flow_line(line: &[u8], ids: &[u32]) -> Result<Option<Arrows>, Refusal>
-    requires { length ids.now ≤ BOXES }
     ensures { result ≡ flow_line ids.now line.now }
 {
     if text::starts(line, b"flow") {
-        let numbers = arrow_line(line, b"flow", ids)?;
-        Ok(Some(Arrows::One(numbers.first, numbers.second)))
+        let (v, u) = arrow_line(line, b"flow", ids)?;
+        Ok(Some(Arrows::One(v, u)))
     } else if text::starts(line, b"both") {
-        let numbers = arrow_line(line, b"both", ids)?;
-        Ok(Some(Arrows::Two(numbers.first, numbers.second)))
+        let (v, u) = arrow_line(line, b"both", ids)?;
+        Ok(Some(Arrows::Two(v, u)))
     } else {
         Ok(None)
     }
 }
 
-fn view_line(line: &[u8], id: u32, state: u32) -> Result<Numbers, Refusal>
-    ensures { result ≡ view_line id state line.now }
+pub(crate) fn view_line(line: &[u8], id: u32, state: u32) -> Result<u32, Refusal>
+    ensures { result ≡ as_class (view_line id state line.now) }
 {
     let n = model::LARGEST_NUMBER;
     let numbers = record_of(line, b"view", &[model::LARGEST_ID, n, n])?;
@@ -237,27 +212,6 @@ fn view_line(line: &[u8], id: u32, state: u32) -> Result<Numbers, Refusal>
     } else if numbers.second != state {
         Err(Refusal::Order)
     } else {
-        Ok(Numbers {
-            fourth: 0,
-            ..numbers
-        })
-    }
-}
-
-// The line, if it is the one that is due, after boxes with the ids given.
-pub(crate) fn line_due(line: &[u8], due: Due, ids: &[u32]) -> Result<Numbers, Refusal>
-    requires { length ids.now ≤ BOXES }
-    ensures { result ≡ line_due due ids.now line.now }
-{
-    match due {
-        Due::Sheet => sheet_line(line),
-        Due::Box => box_line(line, ids),
-        Due::Act => act_line(line, ids),
-        Due::Go {
-            states,
-            state,
-            action,
-        } => go_line(line, states, state, action),
-        Due::View { id, state } => view_line(line, id, state),
+        Ok(numbers.third)
     }
 }

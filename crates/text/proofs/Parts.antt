@@ -158,18 +158,6 @@ same_is (x ∷ xs) (y ∷ ys) e = go (eqb x y) refl (same_is xs ys) e
     go true q f e = let a : x ≡ y = eqb-true x y q in let b : xs ≡ ys = f e in cc
     go false q f e = let z : ◌≡◌ {A = ℕ} 0 1 = cc in absurd (omega arith)
 
--- bytes of another length are not the same
-pub same_length : (a b : List ℕ) → (length a ≡ length b → ⊥) → false ≡ same a b
-unfolding same
-same_length [] [] n = absurd (n refl)
-same_length [] (y ∷ ys) n = refl
-same_length (x ∷ xs) [] n = refl
-same_length (x ∷ xs) (y ∷ ys) n = go (eqb x y) (same_length xs ys (λ e. n (ap suc e)))
-  where
-    go : (t : Bool) → false ≡ same xs ys → false ≡ (t && same xs ys)
-    go true h = h
-    go false h = refl
-
 -- a text with an LF: its first line and the rest
 lines_cons : (l : List ℕ) → before 10 l < length l → lines l ≡ take (before 10 l) l ∷ lines (drop (suc (before 10 l)) l)
 unfolding before lines onto

@@ -13,6 +13,8 @@ use borrow.Author.Count.{below_more}
 use lib.ListN.{get_or, set, length-set, replicate, length-replicate}
 use lib.Seq.{get_or-set_same, get_or-set_other}
 use borrow.Author.Tests.{eq-eqb, eqb-true}
+use lib.Dec.{eqb}
+use Rattle.laws.specs.Range.{every}
 use Rattle.laws.proofs.Tests.{not_both, not_yes, without_none, both_true}
 use Rattle.laws.proofs.Range.{every_at, every_of}
 use Rattle.laws.proofs.Search.{first_of_empty, when_rest, when_no}
@@ -66,15 +68,9 @@ alone_owner states actions next low u o a h =
     record { calm = λ s t p q r k. ap (sent actions next low u a) (alone_same states low o h s t p q k) }
 
 -- ---- no state changes
-pub idle_none : (actions : ℕ) (next : List ℕ) (a : ℕ) → Idle 0 actions next a
-idle_none actions next a = record { idle = λ s l. absurd (not-suc-le-zero l) }
-
-pub idle_more : {n actions : ℕ} {next : List ℕ} {a x : ℕ} → Idle n actions next a → x ≡ get_or next (n * actions + a) 0 → x ≡ n → Idle (n + 1) actions next a
-idle_more {n} {actions} {next} {a} h ex e =
-    record { idle = below_more (λ s. get_or next (s * actions + a) 0 ≡ s) n h.idle (sym ex ∙ e) }
-
-pub idle_all : {n states actions : ℕ} {next : List ℕ} {a : ℕ} → Idle n actions next a → states ≤ n → Idle states actions next a
-idle_all h l = record { idle = λ s p. h.idle s (omega arith) }
+pub idle_of : {states actions : ℕ} {next : List ℕ} {a : ℕ} {r : Bool} → r ≡ every states (λ s. eqb (get_or next (s * actions + a) 0) s) → r ≡ true →
+    Idle states actions next a
+idle_of e h = record { idle = λ s l. eqb-true _ _ (every_at _ _ (sym e ∙ h) s l) }
 
 pub idle_keeps : {states actions : ℕ} {next : List ℕ} {a : ℕ} (low : List ℕ) (u : ℕ) → Idle states actions next a → Keeps states actions next low u a
 idle_keeps low u h = record { keeps = λ s l. ap (low_at low u) (sym (h.idle s l)) }

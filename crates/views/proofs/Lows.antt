@@ -11,6 +11,9 @@ use borrow.Author.Count.{below_more}
 use lib.ListN.{length, get_or, set, length-set, replicate, length-replicate}
 use lib.Seq.{get_or-set_same, get_or-set_other}
 use Rattle.model.specs.Limits.{STATES, BOXES}
+use Rattle.std.specs.declared.option.Option.{Option}
+use Rattle.std.specs.declared.option.Option.TheVariants.{None, Some}
+use Rattle.std.specs.Option.{MatchOption, unwrap_or}
 use Rattle.views.specs.Guards.{LOWS, SLOTS, class_at, low_at, Least, Lows, Filled, slot_of, other_of, Slots, Others, Second, Noted}
 
 -- two states of one class have one first state, and only those
@@ -25,24 +28,13 @@ pub least_like : {states : ℕ} {views : List ℕ} {u s t r q : ℕ} → Least s
     class_at states views u s ≡ class_at states views u t
 least_like {states} {views} {u} h k e = sym h.like ∙ ap (class_at states views u) e ∙ k.like
 
--- ---- by looking at each
--- no state below n has the class of s
-pub record Unlike (states : ℕ) (views : List ℕ) (u s n : ℕ) : Type 0 where
-  pub none : (j : ℕ) → j < n → class_at states views u j ≡ class_at states views u s → ⊥
-
-pub unlike_none : (states : ℕ) (views : List ℕ) (u s : ℕ) → Unlike states views u s 0
-unlike_none states views u s = record { none = λ j l. absurd (not-suc-le-zero l) }
-
-module _ {states : ℕ} {views : List ℕ} {u s n : ℕ} (h : Unlike states views u s n) where
-  pub unlike_more : {x y : ℕ} → x ≡ class_at states views u n → y ≡ class_at states views u s → (x ≡ y → ⊥) → Unlike states views u s (n + 1)
-  unlike_more ex ey d =
-      record { none = below_more (λ j. class_at states views u j ≡ class_at states views u s → ⊥) n h.none (λ e. d (ex ∙ e ∙ sym ey)) }
-
-  pub least_found : {x y : ℕ} → n < s → x ≡ class_at states views u n → y ≡ class_at states views u s → x ≡ y → Least states views u s n
-  least_found l ex ey e = record { upto = omega arith; like = sym ex ∙ e ∙ ey; none = h.none }
-
-  pub least_self : s ≤ n → Least states views u s s
-  least_self l = record { upto = omega arith; like = refl; none = λ j p. h.none j (omega arith) }
+-- ---- the first of an iterator, and s where it has none
+pub least_of : {states : ℕ} {views : List ℕ} {u s : ℕ} (o : Option ℕ)
+    → MatchOption o ((k : ℕ) → 0 ≤ k → k < s → class_at states views u k ≡ class_at states views u s → ⊥)
+    (λ i. (0 ≤ i) × (i < s) × (class_at states views u i ≡ class_at states views u s) × ((k : ℕ) → 0 ≤ k → k < i → class_at states views u k ≡ class_at states views u s → ⊥))
+    → Least states views u s (unwrap_or o s)
+least_of None h = record { upto = omega arith; like = refl; none = λ j l. h j (omega arith) l }
+least_of (Some i) h = record { upto = omega (arith, h.1); like = h.2; none = λ j l. h.3 j (omega arith) l }
 
 -- ---- by way of the slots
 -- t is at most any earlier state of the class of s

@@ -1,4 +1,5 @@
 // What spares the judge its loops over states and pairs of states. Guards read the table of first alike states.
+// Loops go by number: a box, an action and a state together pick the entries of several flat tables (`u * STATES + s`, `s * actions + a`).
 ghost use Rattle.std.specs.Prelude.{◌≡◌, true, false, ◌+◌, ◌*◌, ◌<◌, ◌≤◌, get_or};
 ghost use Rattle.model.specs.Limits.{STATES, ACTIONS, BOXES};
 ghost use Rattle.views.specs.Guards.{SPOTS, low_at, sent, spot, Idle, Keeps, Kept, Alones, alone_in, strong_in, quiet_in, Links, Calm};
@@ -44,18 +45,14 @@ impl<'a> Tables<'a> {
         requires { u < self.now.model.now.machine.sizes.boxes }
         ensures { result ≡ alone_in self.now.model.now.machine.sizes.states self.now.low.now u }
     {
-        'states: for s in 0..self.model.machine.sizes.states {
-            if self.low_of(u, s) != s {
-                return false;
-            }
-        }
-        true
+        (0..self.model.machine.sizes.states).all(|s| self.low_of(u, s) == s)
     }
 
     // The same of every box, since step asks again for each action.
     pub(crate) fn alones(&self) -> [bool; BOXES]
         ensures { Alones self.now.model.now.machine.sizes.states self.now.low.now result }
     {
+        // tried as `array::from_fn(|u| u < boxes && self.alone(u))`, and the proof didn't close
         let mut alones = [false; BOXES];
         'boxes: for u in 0..self.model.machine.sizes.boxes {
             alones[u] = self.alone(u);
@@ -63,17 +60,12 @@ impl<'a> Tables<'a> {
         alones
     }
 
-    // Whether the action changes some state.
-    fn stirs(&self, a: usize) -> bool
+    // Whether the action changes no state.
+    fn is_idle(&self, a: usize) -> bool
         requires { a < self.now.model.now.machine.sizes.actions }
-        ensures { result ≡ false → Idle self.now.model.now.machine.sizes.states self.now.model.now.machine.sizes.actions self.now.next.now a }
+        ensures { result ≡ true → Idle self.now.model.now.machine.sizes.states self.now.model.now.machine.sizes.actions self.now.next.now a }
     {
-        'states: for s in 0..self.model.machine.sizes.states {
-            if self.after(a, s) != s {
-                return true;
-            }
-        }
-        false
+        (0..self.model.machine.sizes.states).all(|s| self.after(a, s) == s)
     }
 
     // An action that changes none is noted for every box.
@@ -94,10 +86,9 @@ impl<'a> Tables<'a> {
     {
         let mut kept = [false; KEPT];
         'actions: for a in 0..self.model.machine.sizes.actions {
-            if self.stirs(a) {
-                continue 'actions;
+            if self.is_idle(a) {
+                self.note_idle(&mut kept, a);
             }
-            self.note_idle(&mut kept, a);
         }
         kept
     }
@@ -107,6 +98,7 @@ impl<'a> Tables<'a> {
         requires { (u < self.now.model.now.machine.sizes.boxes) × (a < self.now.model.now.machine.sizes.actions) }
         ensures { result ≡ true → Keeps self.now.model.now.machine.sizes.states self.now.model.now.machine.sizes.actions self.now.next.now self.now.low.now u a }
     {
+        // by a loop: `all` over the range takes 9 instructions a state and not 8, and misses the bar of speed (still-both: 262 -> 289 thousand in the judge)
         'states: for s in 0..self.model.machine.sizes.states {
             if self.low_of(u, s) != self.sends(u, a, s) {
                 return false;
@@ -137,6 +129,7 @@ impl<'a> Tables<'a> {
         requires { (u < self.now.model.now.machine.sizes.boxes) × (a < self.now.model.now.machine.sizes.actions) }
         ensures { result ≡ strong_in self.now.model.now.machine.sizes.states self.now.model.now.machine.sizes.actions self.now.next.now self.now.low.now u a }
     {
+        // by a loop, as `keeps`
         'states: for s in 0..self.model.machine.sizes.states {
             let t = self.low_of(u, s);
             if t == s {
@@ -164,10 +157,7 @@ impl<'a> Tables<'a> {
         requires state_in { s < self.now.model.now.machine.sizes.states }
         ensures { Links self.now.low.now u o i s t result }
     {
-        if t < s {
-            return self.spot_of(u, o, t) == i;
-        }
-        false
+        t < s && self.spot_of(u, o, t) == i
     }
 
     // Whether each state and an earlier one alike to both boxes go to states alike to u. What stands at the spots is of no matter.
@@ -206,16 +196,7 @@ impl<'a> Tables<'a> {
         requires action_in { a < self.now.model.now.machine.sizes.actions }
         ensures { result ≡ true → Calm self.now.model.now.machine.sizes.states self.now.model.now.machine.sizes.actions self.now.next.now self.now.low.now u o a }
     {
-        if was_kept(kept, u, a) {
-            return true;
-        }
-        if alones[o] {
-            return true;
-        }
-        if self.strong(u, a) {
-            return true;
-        }
-        self.weak(spots, u, o, a)
+        was_kept(kept, u, a) || alones[o] || self.strong(u, a) || self.weak(spots, u, o, a)
     }
 
     // Whether the action's output at each state is that at the first one alike to o, its box.
@@ -223,6 +204,7 @@ impl<'a> Tables<'a> {
         requires { (o < self.now.model.now.machine.sizes.boxes) × (a < self.now.model.now.machine.sizes.actions) }
         ensures { result ≡ quiet_in self.now.model.now.machine.sizes.states self.now.model.now.machine.sizes.actions outputs.now self.now.low.now o a }
     {
+        // by a loop, as `keeps`
         'states: for s in 0..self.model.machine.sizes.states {
             let t = self.low_of(o, s);
             if self.at_state(outputs, a, s) != self.at_state(outputs, a, t) {
@@ -244,9 +226,6 @@ impl<'a> Tables<'a> {
         requires box_in { (o < self.now.model.now.machine.sizes.boxes) × (a < self.now.model.now.machine.sizes.actions) }
         ensures { result ≡ quiet_in self.now.model.now.machine.sizes.states self.now.model.now.machine.sizes.actions outputs.now self.now.low.now o a }
     {
-        if alones[o] {
-            return true;
-        }
-        self.quiet(outputs, o, a)
+        alones[o] || self.quiet(outputs, o, a)
     }
 }

@@ -1,4 +1,5 @@
 // The judge: whether views meet output, respect and step, and where they first do not.
+// Searches go by number: a box, an action and two states together pick the entries of several flat tables, and the place found is told by them.
 #![tactic(auto)]
 
 ghost use Rattle.std.specs.Prelude.{◌≡◌, ◌≢◌, [], length, MatchResult};
@@ -174,6 +175,8 @@ fn of_length<const N: usize>(table: &[u16]) -> Result<&[u16; N], Refusal>
 
 // Whether the views of a model are accepted. The tables are only read. Refused: a table of another length, and a model or a next
 // state that breaks the rules.
+// Not inlined, so that its tables leave the stack with it.
+#[inline(never)]
 pub fn judge(model: Model, next: &[u16], outputs: &[u16], views: &[u16]) -> Result<(), Fault>
     ensures { result ≡ judgement_of model next.now outputs.now views.now }
 {

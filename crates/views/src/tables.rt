@@ -15,17 +15,17 @@ const SLOTS: usize = 256;
 
 #[derive(Clone, Copy)]
 pub(crate) struct Tables<'a> {
-    pub model: &'a Model,
-    pub next: &'a [u16; NEXT_ENTRIES],
-    pub views: &'a [u16; VIEW_ENTRIES],
-    pub low: &'a [u8; LOWS],
-    pub ghost good: { GoodTable model.now.machine next.now },
-    pub ghost lows: { Lows model.now.machine.sizes.states model.now.machine.sizes.boxes views.now low.now },
+    pub(crate) model: &'a Model,
+    pub(crate) next: &'a [u16; NEXT_ENTRIES],
+    pub(crate) views: &'a [u16; VIEW_ENTRIES],
+    pub(crate) low: &'a [u8; LOWS],
+    pub(crate) ghost good: { GoodTable model.now.machine next.now },
+    pub(crate) ghost lows: { Lows model.now.machine.sizes.states model.now.machine.sizes.boxes views.now low.now },
 }
 
 impl<'a> Tables<'a> {
     // What a table of next states or outputs has for the action at s.
-    pub fn at_state(&self, table: &[u16; NEXT_ENTRIES], a: usize, s: usize) -> usize
+    pub(crate) fn at_state(&self, table: &[u16; NEXT_ENTRIES], a: usize, s: usize) -> usize
         requires { (a < self.now.model.now.machine.sizes.actions) × (s < self.now.model.now.machine.sizes.states) }
         ensures { result ≡ get_or table.now (s * self.now.model.now.machine.sizes.actions + a) 0 }
     {
@@ -33,7 +33,7 @@ impl<'a> Tables<'a> {
     }
 
     // The state that the action leads to from s.
-    pub fn after(&self, a: usize, s: usize) -> usize
+    pub(crate) fn after(&self, a: usize, s: usize) -> usize
         requires { (a < self.now.model.now.machine.sizes.actions) × (s < self.now.model.now.machine.sizes.states) }
         ensures is_next { result ≡ get_or self.now.next.now (s * self.now.model.now.machine.sizes.actions + a) 0 }
         ensures in_table { result < self.now.model.now.machine.sizes.states }
@@ -61,7 +61,7 @@ impl<'a> Tables<'a> {
     }
 
     // Whether s and t look alike to o, the action's box, and the action's outputs there differ.
-    pub fn leaks(
+    pub(crate) fn leaks(
         &self,
         outputs: &[u16; OUTPUT_ENTRIES],
         o: usize,
@@ -77,7 +77,7 @@ impl<'a> Tables<'a> {
     }
 
     // Whether the action changes u's class of s.
-    pub fn moves(&self, u: usize, a: usize, s: usize) -> bool
+    pub(crate) fn moves(&self, u: usize, a: usize, s: usize) -> bool
         requires box_in { (u < self.now.model.now.machine.sizes.boxes) × (a < self.now.model.now.machine.sizes.actions) }
         requires state_in { s < self.now.model.now.machine.sizes.states }
         ensures { result ≡ moves_in self.now.model.now.machine.sizes.states self.now.model.now.machine.sizes.actions self.now.next.now self.now.views.now u a s }
@@ -86,7 +86,7 @@ impl<'a> Tables<'a> {
     }
 
     // Whether s and t look alike to u and to o, the action's box, and no longer to u after the action.
-    pub fn tears(&self, u: usize, o: usize, a: usize, s: usize, t: usize) -> bool
+    pub(crate) fn tears(&self, u: usize, o: usize, a: usize, s: usize, t: usize) -> bool
         requires box_in { (u < self.now.model.now.machine.sizes.boxes) × (o < self.now.model.now.machine.sizes.boxes) × (a < self.now.model.now.machine.sizes.actions) }
         requires states_in { (s < self.now.model.now.machine.sizes.states) × (t < self.now.model.now.machine.sizes.states) }
         ensures { result ≡ tears_in self.now.model.now.machine.sizes.states self.now.model.now.machine.sizes.actions self.now.next.now self.now.views.now u o a s t }
@@ -132,12 +132,9 @@ impl<'a> Row<'a> {
         requires { s < self.now.states }
         ensures { Least self.now.states self.now.views.now self.now.u s result }
     {
-        'earlier: for t in 0..s {
-            if self.class(t) == self.class(s) {
-                return t;
-            }
-        }
-        s
+        (0..s)
+            .find(|t| self.class(*t) == self.class(s))
+            .unwrap_or(s)
     }
 
     // The same where the first slot names a state of another class, by way of the second slots.
@@ -189,6 +186,7 @@ impl<'a> Row<'a> {
     {
         let mut slots = [255u8; SLOTS];
         let mut others = [255u8; SLOTS];
+        // by number: a state's class stands in one table, and its entry in another
         'states: for s in 0..self.states {
             let r = self.first_alike(&mut slots, &mut others, s);
             low[self.u * STATES + s] = r as u8;
@@ -203,6 +201,7 @@ pub(crate) fn lows(machine: &Machine, views: &[u16; VIEW_ENTRIES]) -> [u8; LOWS]
 {
     let states = machine.sizes.states;
     let mut low = [0u8; LOWS];
+    // by number: what a box fills is a row of the flat table
     'boxes: for u in 0..machine.sizes.boxes {
         let row = Row { views, states, u };
         row.fill(&mut low);

@@ -1,6 +1,6 @@
 -- What the writers put is the line that the judge's answer stands for.
 -- Assumes nothing.
-use mathlib.Core.Path.{◌≡◌, sym, ◌∙◌, ap, subst}
+use mathlib.Core.Path.{◌≡◌, sym, ◌∙◌, ap}
 use mathlib.Core.List.{List, [], ◌∷◌, ◌++◌}
 use Prim.Native.Nat.{ℕ}
 use lib.ListN.{get_or}
@@ -13,7 +13,7 @@ use Rattle.model.specs.declared.refusal.Refused as refusals
 use Rattle.views.specs.Judgement.{Judgement, accepted}
 use Rattle.views.specs.declared.Fault.TheVariants.{Output, Respect, Step, Refused}
 use Rattle.zarpalume.specs.Words as words
-use Rattle.zarpalume.specs.Lines.{line, tabbed, ended, dashed, broken_respect, refused_line, views_line, Small}
+use Rattle.zarpalume.specs.Lines.{line, tabbed, ended, dashed, broken_respect, refused_line, views_line}
 use Rattle.zarpalume.proofs.Writing.{pair_line, place_line}
 
 -- the words before a place
@@ -54,7 +54,3 @@ module _ (ids owners : List ℕ) {b b' : List ℕ} {n : ℕ} where
   line_refused j {r} {number} e k w =
       same_as (pair_line words.refused (decimal number) (decimal r.line)
       ∙ ap (λ x. refused_line x r.line) k ∙ sym (ap (views_line ids owners) e)) w
-
--- the numbers of an answer fit
-pub small_as : {j k : Judgement} → Small j → j ≡ k → Small k
-small_as h e = subst Small e h

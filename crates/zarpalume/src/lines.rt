@@ -126,6 +126,7 @@ pub(crate) fn put_needs(
     ensures { Written tail.old tail.new result (need_lines model.now.ids list.now count) × (result ≤ 27 * PAIRS) }
 {
     let mut at = 0;
+    // by number, as the definition of the lines goes: the ends of arrow k stand at 2k and 2k + 1
     'pairs: for k in 0..count {
         let source = model.id(model::at(list, 2 * k));
         let target = model.id(model::at(list, 2 * k + 1));
@@ -146,6 +147,7 @@ pub(crate) fn put_depths(
     ensures { Written tail.old tail.new result (depth_lines model.now.ids depths.now boxes) × (result ≤ 28 * BOXES) }
 {
     let mut at = 0;
+    // by number: u picks an id and a depth
     'boxes: for u in 0..boxes {
         let id = model.id(u);
         let depth = depths[u] as u32;

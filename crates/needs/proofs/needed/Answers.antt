@@ -1,51 +1,15 @@
 -- `needs::needed` meets its contract.
-use Rattle.std.proofs.Common.{rules, ◌≡◌, refl, sym, ◌∙◌, ap, length, false, true}
+use Rattle.std.proofs.Common.{rules, ◌≡◌, sym, ◌∙◌, ap, length, true}
 use Rattle.std.specs.Prelude.{eqb, Err}
 use Rattle.model.specs.Limits.{NEXT_ENTRIES, OUTPUT_ENTRIES, LIST_ENTRIES}
-use Rattle.model.specs.Refusal.{refused_as}
-use Rattle.model.specs.declared.refusal.Refusal.TheVariants.{Length}
-use Rattle.needs.proofs.Answering.{lengths_outputs, lengths_list, lengths_next, lengths_all, needed_lengths, list_lengths}
+use Rattle.needs.proofs.Answering.{lengths_all}
 use Rattle.std.specs.Prelude.{Ok, replicate}
-use Rattle.model.specs.declared.refusal.Refusal.TheVariants.{Rules}
 use Rattle.model.proofs.Good.{table_good}
 use borrow.Author.Tests.{eqb-true}
 use Rattle.reach.specs.Answered.{answer_of}
 use Rattle.reach.proofs.Told.{found_says, refused_breaks}
 use Rattle.needs.proofs.Answering.{needed_rules, list_rules, needed_found, list_found, known_of}
 use Rattle.needs.proofs.needed.Goals as goal
-
-pub returns-in_err-unless-clause-value : goal.returns-in_err-unless-clause-value
-returns-in_err-unless-clause-value c =
-    let e : eqb (length c.args.outputs.now) OUTPUT_ENTRIES ≡ false = search rules in
-    let r : c.from_residual.result ≡ Err (refused_as Length 0) = search rules in
-    r ∙ sym (needed_lengths _ _ _ _ (lengths_outputs _ _ _ e))
-
-pub returns-in_err-unless-clause-list_after : goal.returns-in_err-unless-clause-list_after
-returns-in_err-unless-clause-list_after c =
-    let e : eqb (length c.args.outputs.now) OUTPUT_ENTRIES ≡ false = search rules in
-    sym (list_lengths _ _ _ _ (lengths_outputs _ _ _ e))
-
-pub returns-in_err-unless-2-clause-value : goal.returns-in_err-unless-2-clause-value
-returns-in_err-unless-2-clause-value c =
-    let e : eqb (length c.args.list.now) LIST_ENTRIES ≡ false = search rules in
-    let r : c.from_residual-in_err-unless-2.result ≡ Err (refused_as Length 0) = search rules in
-    r ∙ sym (needed_lengths _ _ _ _ (lengths_list _ _ _ e))
-
-pub returns-in_err-unless-2-clause-list_after : goal.returns-in_err-unless-2-clause-list_after
-returns-in_err-unless-2-clause-list_after c =
-    let e : eqb (length c.args.list.now) LIST_ENTRIES ≡ false = search rules in
-    sym (list_lengths _ _ _ _ (lengths_list _ _ _ e))
-
-pub returns-in_err-unless-3-clause-value : goal.returns-in_err-unless-3-clause-value
-returns-in_err-unless-3-clause-value c =
-    let e : eqb (length c.args.next.now) NEXT_ENTRIES ≡ false = search rules in
-    let r : c.from_residual-in_err-unless-3.result ≡ Err (refused_as Length 0) = search rules in
-    r ∙ sym (needed_lengths _ _ _ _ (lengths_next _ _ _ e))
-
-pub returns-in_err-unless-3-clause-list_after : goal.returns-in_err-unless-3-clause-list_after
-returns-in_err-unless-3-clause-list_after c =
-    let e : eqb (length c.args.next.now) NEXT_ENTRIES ≡ false = search rules in
-    sym (list_lengths _ _ _ _ (lengths_next _ _ _ e))
 
 pub returns-in_err-reached-clause-value : goal.returns-in_err-reached-clause-value
 returns-in_err-reached-clause-value c =

@@ -2,12 +2,11 @@
 -- Assumes nothing.
 use Prim.Native.Nat.{◌-◌}
 use Rattle.model.specs.Limits.{STATES}
-use Rattle.model.specs.Good.{GoodTable}
 use Rattle.reach.specs.Explored.{Explored}
 use Rattle.reach.proofs.explore.Given as goal
 
 abbrev pub invariant-work : goal.invariant-work
-invariant-work l = GoodTable l.machine l.next × Explored l.machine l.next l.flags l.work l.done l.entered
+invariant-work l = Explored l.machine l.next l.list.flags l.list.work l.list.done l.list.entered
 
 abbrev pub decreases-work : goal.decreases-work
-decreases-work l = STATES - l.done
+decreases-work l = STATES - l.list.done

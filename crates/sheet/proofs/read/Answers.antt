@@ -1,18 +1,46 @@
 -- `sheet::read` meets its contract. Assumes nothing.
-use Rattle.std.proofs.Common.{sym, ◌∙◌}
+use Rattle.std.proofs.Common.{rules, ◌≡◌, sym, ◌∙◌, length}
+use Rattle.model.specs.Limits.{NEXT_ENTRIES, OUTPUT_ENTRIES, VIEW_ENTRIES}
 use Rattle.sheet.proofs.Outcome.{wrong_next, wrong_outputs, wrong_views, a_refusal, a_model}
 use Rattle.sheet.proofs.read.Goals as goal
-use Rattle.sheet.proofs.read.Goals.{then-next-ne-NEXT_ENTRIES-via-then-next-ne-NEXT_ENTRIES, then-next-ne-NEXT_ENTRIES-via-else-next-ne-NEXT_ENTRIES+then-outputs-ne-OUTPUT_ENTRIES, then-next-ne-NEXT_ENTRIES-via-else-next-ne-NEXT_ENTRIES+else-outputs-ne-OUTPUT_ENTRIES+then-views-ne-VIEW_ENTRIES}
 
-pub returns-then-next-ne-NEXT_ENTRIES : goal.returns-then-next-ne-NEXT_ENTRIES
-returns-then-next-ne-NEXT_ENTRIES c = elim c.then-next-ne-NEXT_ENTRIES.branch [
-  | then-next-ne-NEXT_ENTRIES-via-then-next-ne-NEXT_ENTRIES w ↦ wrong_next c.args.text.now c.args.next.now c.args.outputs.now c.args.views.now w.if-next-ne-NEXT_ENTRIES.true
-  | then-next-ne-NEXT_ENTRIES-via-else-next-ne-NEXT_ENTRIES+then-outputs-ne-OUTPUT_ENTRIES w ↦ wrong_outputs c.args.text.now c.args.next.now c.args.outputs.now c.args.views.now w.if-next-ne-NEXT_ENTRIES.false w.if-outputs-ne-OUTPUT_ENTRIES.true
-  | then-next-ne-NEXT_ENTRIES-via-else-next-ne-NEXT_ENTRIES+else-outputs-ne-OUTPUT_ENTRIES+then-views-ne-VIEW_ENTRIES w ↦ wrong_views c.args.text.now c.args.next.now c.args.outputs.now c.args.views.now w.if-next-ne-NEXT_ENTRIES.false w.if-outputs-ne-OUTPUT_ENTRIES.false w.if-views-ne-VIEW_ENTRIES.true
-]
+pub returns-in_default : goal.returns-in_default
+returns-in_default c =
+    let g = c.args in
+    let n : length g.next.now ≡ NEXT_ENTRIES → ⊥ = search rules in
+    rw c.into.ensures (wrong_next g.text.now g.next.now g.outputs.now g.views.now n)
+
+pub returns-in_default-as_mut_array : goal.returns-in_default-as_mut_array
+returns-in_default-as_mut_array c =
+    let g = c.args in
+    let s : c.in-Some.next.now ≡ g.next.now = search rules in
+    let p : length g.next.now ≡ NEXT_ENTRIES = search rules in
+    let n : length g.outputs.now ≡ OUTPUT_ENTRIES → ⊥ = search rules in
+    rw (c.into-in_default-as_mut_array.ensures, s) (wrong_outputs g.text.now g.next.now g.outputs.now g.views.now p n)
+
+pub returns-in_default-as_mut_array-2 : goal.returns-in_default-as_mut_array-2
+returns-in_default-as_mut_array-2 c =
+    let g = c.args in
+    let s : c.in-Some.next.now ≡ g.next.now = search rules in
+    let o : c.in-Some-as_mut_array.outputs.now ≡ g.outputs.now = search rules in
+    let p : length g.next.now ≡ NEXT_ENTRIES = search rules in
+    let q : length g.outputs.now ≡ OUTPUT_ENTRIES = search rules in
+    let n : length g.views.now ≡ VIEW_ENTRIES → ⊥ = search rules in
+    rw (c.into-in_default-as_mut_array-2.ensures, s, o) (wrong_views g.text.now g.next.now g.outputs.now g.views.now p q n)
 
 pub returns-then-is_err : goal.returns-then-is_err
-returns-then-is_err c = a_refusal c.args.text.now c.args.next.now c.args.outputs.now c.args.views.now c.if-next-ne-NEXT_ENTRIES.false c.if-outputs-ne-OUTPUT_ENTRIES.false c.if-views-ne-VIEW_ENTRIES.false c.read_text-model.result _ _ _ _ _ c.read_text-model.ensures (sym c.is_err.ensures.value ∙ c.if-is_err.true) c.zero_all-then-is_err.ensures.0 c.zero_all-then-is_err.ensures.1 c.zero_all-then-is_err.ensures.2
+returns-then-is_err c =
+    let g = c.args in
+    let p : length g.next.now ≡ NEXT_ENTRIES = search rules in
+    let q : length g.outputs.now ≡ OUTPUT_ENTRIES = search rules in
+    let r : length g.views.now ≡ VIEW_ENTRIES = search rules in
+    let z = c.zero_all-then-is_err.ensures in
+    a_refusal g.text.now g.next.now g.outputs.now g.views.now p q r c.read_text-model.result _ _ _ _ _ c.read_text-model.ensures (sym c.is_err.ensures.value ∙ c.if-is_err.true) z.0 z.1 z.2
 
 pub returns-else-is_err : goal.returns-else-is_err
-returns-else-is_err c = a_model c.args.text.now c.args.next.now c.args.outputs.now c.args.views.now c.if-next-ne-NEXT_ENTRIES.false c.if-outputs-ne-OUTPUT_ENTRIES.false c.if-views-ne-VIEW_ENTRIES.false c.read_text-model.result _ _ _ c.read_text-model.ensures (sym c.is_err.ensures.value ∙ c.if-is_err.false)
+returns-else-is_err c =
+    let g = c.args in
+    let p : length g.next.now ≡ NEXT_ENTRIES = search rules in
+    let q : length g.outputs.now ≡ OUTPUT_ENTRIES = search rules in
+    let r : length g.views.now ≡ VIEW_ENTRIES = search rules in
+    a_model g.text.now g.next.now g.outputs.now g.views.now p q r c.read_text-model.result _ _ _ c.read_text-model.ensures (sym c.is_err.ensures.value ∙ c.if-is_err.false)

@@ -1,17 +1,13 @@
 -- `sheet::read_text` meets its contract. Assumes nothing.
-use Rattle.std.proofs.Common.{ap, ◌∙◌, length, arith, le-ltb, lt-ltb, le-leb, ne_eqb}
+use Rattle.std.proofs.Common.{◌∙◌, length, arith, le-ltb, lt-ltb, le-leb, ne_eqb}
 use borrow.Author.Tests.{lt-leb}
-use Rattle.model.specs.Limits.{NEXT_ENTRIES, OUTPUT_ENTRIES, VIEW_ENTRIES}
 use Rattle.sheet.specs.Reading.{sheet_text}
-use Rattle.sheet.proofs.First.{zeros_length, over_zeros}
+use Rattle.sheet.proofs.First.{over_zeros}
 use Rattle.sheet.proofs.read_text.Goals as goal
 use Rattle.sheet.proofs.read_text.Goals.{else-n-gt0-via-then-n-gt0+then-n-le-SHEET_BYTES+else-text-n-eq10, else-n-gt0-via-then-n-gt0+else-n-le-SHEET_BYTES, else-n-gt0-via-else-n-gt0}
 
-pub read_lines-requires-clause-lengths : goal.read_lines-requires-clause-lengths
-read_lines-requires-clause-lengths c = (ap length c.requires.0 ∙ zeros_length NEXT_ENTRIES, ap length c.requires.1 ∙ zeros_length OUTPUT_ENTRIES, ap length c.requires.2 ∙ zeros_length VIEW_ENTRIES)
-
 pub returns-then-text-n-eq10 : goal.returns-then-text-n-eq10
-returns-then-text-n-eq10 c = c.read_lines.ensures ∙ over_zeros c.args.text.now c.args.next.now c.args.outputs.now c.args.views.now c.requires.0 c.requires.1 c.requires.2 (omega arith) (omega arith) c.if-text-n-eq10.true
+returns-then-text-n-eq10 c = c.read_lines.ensures ∙ over_zeros c.args.text.now c.args.next.now c.args.outputs.now c.args.views.now c.requires.next_zero c.requires.outputs_zero c.requires.views_zero (omega arith) (omega arith) c.if-text-n-eq10.true
 
 pub returns-else-n-gt0 : goal.returns-else-n-gt0
 unfolding sheet_text

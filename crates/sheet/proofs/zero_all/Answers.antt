@@ -14,7 +14,7 @@ returns c =
     let a = c.fill.ensures in
     let b = c.fill-2.ensures in
     let d = c.fill-3.ensures in (
-      all_zero c.fill.new.self _ (a.len ∙ c.requires.0) (λ k e l. a.clones k e (omega arith) refl),
-      all_zero c.fill-2.new.self _ (b.len ∙ c.requires.1) (λ k e l. b.clones k e (omega arith) refl),
-      all_zero c.fill-3.new.self _ (d.len ∙ c.requires.2) (λ k e l. d.clones k e (omega arith) refl),
+      all_zero c.fill.new.self _ (omega (arith, a.len)) (λ k e l. a.clones k e (omega arith) refl),
+      all_zero c.fill-2.new.self _ (omega (arith, b.len)) (λ k e l. b.clones k e (omega arith) refl),
+      all_zero c.fill-3.new.self _ (omega (arith, d.len)) (λ k e l. d.clones k e (omega arith) refl),
     )

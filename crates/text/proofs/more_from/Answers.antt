@@ -1,13 +1,9 @@
 -- `text::more_from` meets its contract. Assumes nothing.
-use Rattle.std.proofs.Common.{◌≡◌, ℕ, ◌+◌, ◌-◌, Some, length, get_or, drop, sym, refl, ap, ◌∙◌, arith, length-drop}
+use Rattle.std.proofs.Common.{◌≡◌, ◌+◌, ◌-◌, Some, length, get_or, drop, sym, refl, ◌∙◌, arith, length-drop}
 use Rattle.text.specs.Number.{digit}
-use Rattle.text.specs.Lines.{more_from}
 use Rattle.text.proofs.Parts.{tail_is, byte_is, end_here}
 use Rattle.text.proofs.Digits.{digit_no_tab, digit_some, more_over, more_here, more_bad, more_good}
 use Rattle.text.proofs.more_from.Goals as goal
-
-pub loop-i-init : goal.loop-i-init
-loop-i-init c = record { some = c.requires; says = ap (λ (j : ℕ). more_from c.args.limit c.args.line.now j c.args.first) (omega arith) }
 
 pub returns-then-byte-eq9 : goal.returns-then-byte-eq9
 returns-then-byte-eq9 c =

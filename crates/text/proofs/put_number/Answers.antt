@@ -1,5 +1,5 @@
 -- `text::put_number` meets its contract: the digits of what is left, with those that are set after them, are the value's. Assumes nothing.
-use Rattle.std.proofs.Common.{◌≡◌, ℕ, zero, suc, ◌+◌, ◌-◌, ◌/◌, ◌%◌, ◌^◌, ◌<◌, ◌≤◌, List, ◌∷◌, length, take, drop, set, sym, refl, ◌∙◌, append_assoc, append-nil, pow-suc, arith, length-drop, length-set, length-take-le, take_all, drop_at}
+use Rattle.std.proofs.Common.{◌≡◌, ℕ, zero, suc, ◌+◌, ◌-◌, ◌/◌, ◌%◌, ◌^◌, ◌<◌, ◌≤◌, List, ◌∷◌, length, take, drop, set, sym, ◌∙◌, append_assoc, pow-suc, arith, length-drop, length-set, length-take-le, take_all, drop_at}
 use lib.Seq.{set_split}
 use Rattle.text.specs.Number.{decimal}
 use Rattle.text.proofs.Digits.{digits_one, digits_more}
@@ -35,17 +35,8 @@ module _ {value : ℕ} {ds : List ℕ} {left i : ℕ} (p : At value ds left i) w
           rest = rw (e, drop_set ds i (48 + left % 10) (omega (arith, p.room, p.within))) (sym (simp append_assoc) ∙ (rw (digits_more i left h) at p.rest));
         }
 
-pub loop-left-init : goal.loop-left-init
-loop-left-init c = record { within = omega arith; room = refl; short = omega arith; rest = append-nil _ }
-
-pub overflow_sub-i : goal.overflow_sub-i
-overflow_sub-i c = omega (arith, some c.loop-left.invariant (omega arith))
-
 pub loop-left-preserved : goal.loop-left-preserved
 loop-left-preserved c = again c.loop-left.invariant (omega arith)
-
-pub slice_bounds-put_bytes-end : goal.slice_bounds-put_bytes-end
-slice_bounds-put_bytes-end c = simp length-set (omega (arith, c.loop-left.invariant.room))
 
 pub returns : goal.returns
 returns c = rw (← last c.loop-left.invariant (omega arith)) c.put_bytes.ensures

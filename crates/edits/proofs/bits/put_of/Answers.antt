@@ -1,9 +1,8 @@
 -- `edits::bits::put_of` meets its contract. Assumes nothing.
 use Rattle.std.proofs.Common.{◌≡◌, refl, ◌∙◌, Bool, true, false, ◌<◌}
-use native.Mathlib.Nat.{div-le_self}
 use native.Mathlib.Omega.{arith}
 use mir.Val.{bool_byte}
-use Rattle.laws.proofs.Bits.{put_is, put_room, power_pos}
+use Rattle.laws.proofs.Bits.{put_is, put_room}
 use Rattle.edits.specs.Private.{one_if}
 use Rattle.edits.proofs.bits.put_of.Goals as goal
 
@@ -14,18 +13,6 @@ byte_is false = refl
 byte_small : (b : Bool) → bool_byte b < 2
 byte_small true = omega arith
 byte_small false = omega arith
-
-pub nonzero_rem-result : goal.nonzero_rem-result
-nonzero_rem-result c = omega (arith, power_pos c.args.p)
-
-pub nonzero_div-result : goal.nonzero_div-result
-nonzero_div-result c = omega (arith, power_pos c.args.p)
-
-pub overflow_mul-result : goal.overflow_mul-result
-overflow_mul-result c = record { fits = omega (arith, div-le_self c.args.set c.power-low.result) }
-
-pub overflow_add-result : goal.overflow_add-result
-overflow_add-result c = record { fits = omega (arith, c.from.ensures, byte_small c.args.b, div-le_self c.args.set c.power-low.result) }
 
 pub overflow_mul-result-2 : goal.overflow_mul-result-2
 overflow_mul-result-2 c =

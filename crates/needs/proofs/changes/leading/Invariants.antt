@@ -2,5 +2,5 @@
 use Rattle.needs.specs.Again.{Covered}
 use Rattle.needs.proofs.changes.leading.Given as goal
 
-abbrev pub invariant-moved : goal.invariant-moved
-invariant-moved l = Covered l.before l.moved.list l.marks l.i
+abbrev pub invariant-loop-x : goal.invariant-loop-x
+invariant-loop-x l = Covered l.before l.moved.list l.marks l.x-index

@@ -1,11 +1,8 @@
 -- `needs::outputs::observes` meets its contract.
-use Rattle.std.proofs.Common.{sym, ◌∙◌}
-use borrow.Author.Tests.{eq-eqb}
-use Rattle.laws.proofs.Loops.{some_yes, some_no}
+use Rattle.std.proofs.Common.{refl, eqb, rules, tests}
+use Rattle.laws.proofs.Ranges.{any_below}
+use Rattle.model.specs.Denoted.{owner_at}
 use Rattle.needs.proofs.outputs.observes.Goals as goal
 
-pub returns-then-owner-u : goal.returns-then-owner-u
-returns-then-owner-u c = some_yes _ _ _ c.actions-test.true (eq-eqb _ _ (sym c.owner.ensures ∙ c.if-owner-u.true))
-
 pub returns : goal.returns
-returns c = some_no _ _ c.actions-test.false c.actions.invariant
+returns c = any_below c.args.machine.now.sizes.actions (λ a. eqb (owner_at c.args.machine.now a) c.args.u) c.any.ensures.ran refl (λ x b q k. search (rules, tests))

@@ -1,20 +1,11 @@
 -- `needs::rounds::one_class` meets its contract.
-use borrow.Author.Tests.{eq-eqb, ne_eqb}
+use Rattle.std.proofs.Common.{refl, eqb, rules, tests}
 use Rattle.laws.specs.Choice.{brings}
-use Rattle.laws.proofs.Tests.{brings_of, not_both}
-use Rattle.laws.proofs.Range.{held_more}
-use Rattle.laws.proofs.Loops.{every_yes, every_no}
+use Rattle.laws.proofs.Ranges.{all_below}
+use Rattle.reach.specs.Set.{flag_at}
+use Rattle.needs.specs.Tables.{entry}
 use Rattle.needs.proofs.rounds.one_class.Goals as goal
 
-pub states-preserved-then-c-s-eq0 : goal.states-preserved-then-c-s-eq0
-states-preserved-then-c-s-eq0 c = held_more _ _ c.states.invariant (brings_of _ (λ i. eq-eqb _ _ c.if-c-s-eq0.true))
-
-pub returns-then-inside-s : goal.returns-then-inside-s
-unfolding brings
-returns-then-inside-s c = every_no _ _ _ c.states-test.true (rw (c.if-inside-s.true, ne_eqb _ _ c.if-c-s-eq0.false))
-
-pub states-preserved : goal.states-preserved
-states-preserved c = held_more _ _ c.states.invariant (brings_of _ (λ i. not_both i c.if-inside-s.false))
-
 pub returns : goal.returns
-returns c = every_yes _ _ c.states-test.false c.states.invariant
+unfolding brings
+returns c = all_below c.args.states (λ s. brings (flag_at c.args.inside.now s) (eqb (entry c.args.c.now s) 0)) c.all.ensures.ran refl (λ x b q k. search (rules, tests))

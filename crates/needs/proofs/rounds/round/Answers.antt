@@ -16,7 +16,7 @@ states-init c = (
   led_none _ _ refl,
   leads_none,
   begun_none _ _ _ _ (length-replicate {A = ℕ} SLOTS STATES),
-  moved_none (length-replicate {A = ℕ} STATES 0),
+  moved_none c.args.moved.now.places,
   same_none,
 )
 

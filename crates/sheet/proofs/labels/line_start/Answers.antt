@@ -10,7 +10,7 @@ unfolding line_start
 loop-k-init c = refl
 
 pub overflow_add-at : goal.overflow_add-at
-overflow_add-at c = omega (arith, c.find-at.ensures, line_ends c.requires.0 c.loop-k.at (rw c.loop-k.invariant (placed c.requires.0 c.loop-k.k (omega arith)).within))
+overflow_add-at c = omega (arith, c.find-at.ensures, line_ends c.args.sheet.ended c.loop-k.at (rw c.loop-k.invariant (placed c.args.sheet.ended c.loop-k.k (omega arith)).within))
 
 pub loop-k-preserved : goal.loop-k-preserved
 unfolding line_start

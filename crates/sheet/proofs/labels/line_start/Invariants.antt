@@ -4,4 +4,4 @@ use Rattle.sheet.specs.Label.{line_start}
 use Rattle.sheet.proofs.labels.line_start.Given as goal
 
 abbrev pub invariant-loop-k : goal.invariant-loop-k
-invariant-loop-k l = l.at ≡ line_start l.k l.text
+invariant-loop-k l = l.at ≡ line_start l.k l.sheet.text.now

@@ -1,21 +1,32 @@
 -- `sheet::lines::arrow_line` meets its contract. Assumes nothing.
-use Rattle.std.proofs.Common.{sym, ◌∙◌, le-ltb, lt-ltb}
+use Rattle.std.proofs.Common.{sym, ◌∙◌}
 use Rattle.std.proofs.lemmas.Result.{err_from_is_err_and}
 use Rattle.sheet.specs.Records.{arrow_line}
+use Rattle.sheet.proofs.Placed.{known_ok, known_err}
 use Rattle.sheet.proofs.lines.arrow_line.Goals as goal
-use Rattle.sheet.proofs.lines.arrow_line.Goals.{else-v-ids-via-then-v-ids+else-u-ids, else-v-ids-via-else-v-ids}
 
 pub returns-in_err-numbers : goal.returns-in_err-numbers
 unfolding arrow_line
 returns-in_err-numbers c = let p = err_from_is_err_and c.from_residual.result c.from_residual.ensures.1 in rw (p.1, p.2) (rw (sym c.record_of.ensures ∙ c.in_err-numbers.was))
 
-pub returns-then-u-ids : goal.returns-then-u-ids
+pub returns-in_err-v : goal.returns-in_err-v
 unfolding arrow_line
-returns-then-u-ids c = rw (sym c.record_of.ensures ∙ c.in_ok-numbers.was, ← c.position-v.ensures, lt-ltb _ _ c.if-v-ids.true, ← c.position-u.ensures, lt-ltb _ _ c.if-u-ids.true)
+returns-in_err-v c =
+    let p = err_from_is_err_and c.from_residual-in_err-v.result c.from_residual-in_err-v.ensures.1 in
+    let v = known_err _ _ _ c.position.ensures c.ok_or.ensures.value _ c.in_err-v.was in
+    rw (p.1, p.2, v.1) (rw (sym c.record_of.ensures ∙ c.in_ok-numbers.was, v.0))
 
-pub returns-else-v-ids : goal.returns-else-v-ids
+pub returns-in_err-u : goal.returns-in_err-u
 unfolding arrow_line
-returns-else-v-ids c = elim c.else-v-ids.branch [
-  | else-v-ids-via-then-v-ids+else-u-ids w ↦ rw (sym c.record_of.ensures ∙ c.in_ok-numbers.was, ← c.position-v.ensures, lt-ltb _ _ w.if-v-ids.true, ← c.position-u.ensures, le-ltb _ _ w.if-u-ids.false)
-  | else-v-ids-via-else-v-ids w ↦ rw (sym c.record_of.ensures ∙ c.in_ok-numbers.was, ← c.position-v.ensures, le-ltb _ _ w.if-v-ids.false)
-]
+returns-in_err-u c =
+    let p = err_from_is_err_and c.from_residual-in_err-u.result c.from_residual-in_err-u.ensures.1 in
+    let v = known_ok _ _ _ c.position.ensures c.ok_or.ensures.value _ c.in_ok-v.was in
+    let u = known_err _ _ _ c.position-2.ensures c.ok_or-2.ensures.value _ c.in_err-u.was in
+    rw (p.1, p.2, u.1) (rw (sym c.record_of.ensures ∙ c.in_ok-numbers.was, v.0, u.0))
+
+pub returns : goal.returns
+unfolding arrow_line
+returns c =
+    let v = known_ok _ _ _ c.position.ensures c.ok_or.ensures.value _ c.in_ok-v.was in
+    let u = known_ok _ _ _ c.position-2.ensures c.ok_or-2.ensures.value _ c.in_ok-u.was in
+    rw (sym c.record_of.ensures ∙ c.in_ok-numbers.was, v.0, u.0, v.1, u.1)

@@ -1,16 +1,9 @@
--- `sheet::lines::position` meets its contract: none of the ids passed is the one looked for. Assumes nothing.
-use Rattle.std.proofs.Common.{◌≡◌, length, sym, ◌∙◌, arith}
-use Rattle.text.proofs.Parts.{end_here, end_past, end_over}
+-- `sheet::lines::position` meets its contract. Assumes nothing.
+use Rattle.std.proofs.Common.{eqb, rules, tests}
+use Rattle.std.proofs.lemmas.Iterator.{YieldsList-from_slice}
+use Rattle.std.proofs.lemmas.Iterator.Search.{position_from_yields_List}
+use Rattle.sheet.proofs.Placed.{found_is}
 use Rattle.sheet.proofs.lines.position.Goals as goal
 
-pub loop-k-init : goal.loop-k-init
-loop-k-init c = omega arith
-
-pub returns-then-known-id : goal.returns-then-known-id
-returns-then-known-id c = sym (end_here _ _ _ (omega arith) c.if-known-id.true) ∙ c.loop-k.invariant
-
-pub loop-k-preserved : goal.loop-k-preserved
-loop-k-preserved c = sym (end_past _ _ _ (omega arith) c.if-known-id.false) ∙ c.loop-k.invariant
-
 pub returns : goal.returns
-returns c = let e : length c.args.ids.now ≡ c.loop-k.k = omega arith in rw e (sym (end_over _ c.args.id _ (omega arith)) ∙ c.loop-k.invariant)
+returns c = found_is c.args.ids.now c.args.id c.position.result (position_from_yields_List (λ x. eqb x c.args.id) _ _ c.position.result c.position.ensures.ran (YieldsList-from_slice c.args.ids.now cc) (λ x b q k. search (rules, tests)))

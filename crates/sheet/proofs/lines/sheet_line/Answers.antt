@@ -11,7 +11,7 @@ returns-in_err-numbers c = let p = err_from_is_err_and c.from_residual.result c.
 
 pub returns-then-numbers : goal.returns-then-numbers
 unfolding sheet_line
-returns-then-numbers c = rw (sym c.record_of.ensures ∙ c.in_ok-numbers.was, sym c.sized.ensures ∙ c.if-sized.true, sym c.sized-then-sized.ensures ∙ c.if-sized-2.true, sym c.sized-then-sized-2.ensures ∙ c.if-sized-3.true, lt-ltb _ _ c.if-numbers.true)
+returns-then-numbers c = rw (c.new.ensures, sym c.record_of.ensures ∙ c.in_ok-numbers.was, sym c.sized.ensures ∙ c.if-sized.true, sym c.sized-then-sized.ensures ∙ c.if-sized-2.true, sym c.sized-then-sized-2.ensures ∙ c.if-sized-3.true, lt-ltb _ _ c.if-numbers.true)
 
 pub returns-else-numbers : goal.returns-else-numbers
 unfolding sheet_line

@@ -1,25 +1,28 @@
 -- `sheet::phases::read_acts` meets its contract. Assumes nothing.
-use Rattle.std.proofs.Common.{refl, sym, ◌∙◌, arith, length-set}
+use Rattle.std.proofs.Common.{rules, refl, sym, ◌∙◌, arith, length-set}
 use Rattle.std.proofs.lemmas.Result.{err_from_is_err_and}
+use Rattle.sheet.specs.Numbers.{as_first, first_kept}
+use Rattle.sheet.specs.Records.{act_line}
+use Rattle.sheet.proofs.Taking.{taken_is}
 use Rattle.sheet.proofs.Going.{start, over, stopped, took, said}
 use Rattle.sheet.proofs.Good.{act_good}
 use Rattle.sheet.proofs.phases.read_acts.Goals as goal
 use Rattle.sheet.proofs.phases.read_acts.Invariants.{due, kept}
 
 pub loop-k-init : goal.loop-k-init
-loop-k-init c = record { room = refl; going = start (due _) kept _ _ _ _ _ c.requires.ended c.args.first.few }
+loop-k-init c = record { room = refl; going = start (due _) kept _ _ _ _ _ c.args.sheet.ended c.args.first.few }
 
 pub returns-in_err-taken : goal.returns-in_err-taken
-returns-in_err-taken c = let p = err_from_is_err_and c.from_residual.result c.from_residual.ensures.1 in rw (p.1, p.2) (stopped c.loop-k.invariant.going (omega arith) _ (sym c.take_due.ensures ∙ c.in_err-taken.was))
+returns-in_err-taken c = let p = err_from_is_err_and c.from_residual.result c.from_residual.ensures.1 in rw (p.1, p.2) (stopped c.loop-k.invariant.going (omega arith) first_kept _ (sym (taken_is (λ l. as_first (act_line c.args.ids.ids.now l)) _ _ _ (λ l x k. search rules) c.take.ensures) ∙ c.in_err-taken.was))
 
 pub overflow_cast-owners : goal.overflow_cast-owners
-overflow_cast-owners c = omega (arith, act_good c.args.ids.now _ (said c.loop-k.invariant.going (omega arith) (sym c.take_due.ensures ∙ c.in_ok-taken.was)), c.requires.few_ids)
+overflow_cast-owners c = let k = said c.loop-k.invariant.going (omega arith) first_kept (sym (taken_is (λ l. as_first (act_line c.args.ids.ids.now l)) _ _ _ (λ l x k. search rules) c.take.ensures) ∙ c.in_ok-taken.was) in omega (arith, act_good c.args.ids.ids.now _ k.is, k.read_is, c.args.ids.few)
 
 pub invariant_of-cursor : goal.invariant_of-cursor
 invariant_of-cursor c = record { few = c.loop-k.invariant.going.few }
 
 pub loop-k-preserved : goal.loop-k-preserved
-loop-k-preserved c = record { room = simp length-set c.loop-k.invariant.room; going = took c.loop-k.invariant.going (omega arith) (sym c.take_due.ensures ∙ c.in_ok-taken.was) }
+loop-k-preserved c = record { room = simp length-set c.loop-k.invariant.room; going = took c.loop-k.invariant.going (omega arith) first_kept (sym (taken_is (λ l. as_first (act_line c.args.ids.ids.now l)) _ _ _ (λ l x k. search rules) c.take.ensures) ∙ c.in_ok-taken.was) (λ a b c d r. rw r) }
 
 pub returns : goal.returns
 returns c = over c.loop-k.invariant.going (omega arith)

@@ -19,4 +19,4 @@ pub record At (t : List ℕ) (from first count : ℕ) (ids owners : List ℕ) (a
   pub going : Going (due ids) kept t (acts ids count (lines (drop from t)) first) count k owners at n
 
 abbrev pub invariant-loop-k : goal.invariant-loop-k
-invariant-loop-k l = At l.text l.fn.first.at l.fn.first.line l.count l.ids l.owners l.cursor.0 l.cursor.1.0 l.k
+invariant-loop-k l = At l.sheet.text.now l.fn.first.at l.fn.first.line l.count l.ids.ids.now l.owners l.cursor.0 l.cursor.1.0 l.k

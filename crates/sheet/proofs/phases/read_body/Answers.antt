@@ -25,10 +25,10 @@ pub returns-in_err-last : goal.returns-in_err-last
 unfolding parts drawing
 returns-in_err-last c = let p = err_from_is_err_and c.from_residual-in_err-last.result c.from_residual-in_err-last.ensures.1 in rw (p.1, p.2, ← c.read_boxes.ensures, c.in_ok-boxes.was, ← sub-zero c.args.sizes.boxes, ← c.read_acts.ensures, c.in_ok-acts.was, ← c.read_goes.ensures, c.in_ok-gone.was, ← c.read_flows.ensures, c.in_ok-flows.was, ← c.read_views.ensures, c.in_err-last.was)
 
-pub returns-then-last-text : goal.returns-then-last-text
+pub returns-then-last-sheet : goal.returns-then-last-sheet
 unfolding parts drawing
-returns-then-last-text c = rw (← c.read_boxes.ensures, c.in_ok-boxes.was, ← sub-zero c.args.sizes.boxes, ← c.read_acts.ensures, c.in_ok-acts.was, ← c.read_goes.ensures, c.in_ok-gone.was, ← c.read_flows.ensures, c.in_ok-flows.was, ← c.read_views.ensures, c.in_ok-last.was, line_next c.requires.ended _ c.if-last-text.true)
+returns-then-last-sheet c = rw (← c.read_boxes.ensures, c.in_ok-boxes.was, ← sub-zero c.args.sizes.boxes, ← c.read_acts.ensures, c.in_ok-acts.was, ← c.read_goes.ensures, c.in_ok-gone.was, ← c.read_flows.ensures, c.in_ok-flows.was, ← c.read_views.ensures, c.in_ok-last.was, line_next c.args.sheet.ended _ c.if-last-sheet.true)
 
-pub returns-else-last-text : goal.returns-else-last-text
+pub returns-else-last-sheet : goal.returns-else-last-sheet
 unfolding parts drawing
-returns-else-last-text c = rw (c.new-else-last-text.ensures, c.new.ensures, ← c.read_boxes.ensures, c.in_ok-boxes.was, ← sub-zero c.args.sizes.boxes, ← c.read_acts.ensures, c.in_ok-acts.was, ← c.read_goes.ensures, c.in_ok-gone.was, ← c.read_flows.ensures, c.in_ok-flows.was, ← c.read_views.ensures, c.in_ok-last.was, no_lines c.args.text.now _ c.if-last-text.false)
+returns-else-last-sheet c = rw (c.new-else-last-sheet.ensures, c.new.ensures, ← c.read_boxes.ensures, c.in_ok-boxes.was, ← sub-zero c.args.sizes.boxes, ← c.read_acts.ensures, c.in_ok-acts.was, ← c.read_goes.ensures, c.in_ok-gone.was, ← c.read_flows.ensures, c.in_ok-flows.was, ← c.read_views.ensures, c.in_ok-last.was, no_lines c.args.sheet.text.now _ c.if-last-sheet.false)

@@ -19,4 +19,4 @@ pub record At (t : List ℕ) (from first count : ℕ) (ids : List ℕ) (at n k :
   pub going : Going due kept t (boxes count (lines (drop from t)) first) count k ids at n
 
 abbrev pub invariant-loop-k : goal.invariant-loop-k
-invariant-loop-k l = At l.text l.fn.first.at l.fn.first.line l.count l.ids l.cursor.0 l.cursor.1.0 l.k
+invariant-loop-k l = At l.sheet.text.now l.fn.first.at l.fn.first.line l.count l.ids l.cursor.0 l.cursor.1.0 l.k

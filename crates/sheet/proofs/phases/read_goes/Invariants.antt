@@ -19,4 +19,4 @@ pub record At (t : List ℕ) (from first states actions : ℕ) (next₀ outputs�
   pub going : Going (due states actions) kept t (goes states actions (steps next₀ outputs₀) (lines (drop from t)) first) (states * actions) k (steps next outputs) at n
 
 abbrev pub invariant-loop-k : goal.invariant-loop-k
-invariant-loop-k l = At l.text l.fn.first.at l.fn.first.line l.states l.actions l.initial.next l.initial.outputs l.next l.outputs l.cursor.0 l.cursor.1.0 l.k
+invariant-loop-k l = At l.sheet.text.now l.fn.first.at l.fn.first.line l.states l.actions l.initial.next l.initial.outputs l.next l.outputs l.cursor.0 l.cursor.1.0 l.k

@@ -19,4 +19,4 @@ pub record At (t : List ℕ) (from first states : ℕ) (ids views₀ views : Lis
   pub going : Going (due ids states) kept t (phases.views ids states views₀ (lines (drop from t)) first) (length ids * states) k views at n
 
 abbrev pub invariant-loop-k : goal.invariant-loop-k
-invariant-loop-k l = At l.text l.fn.first.at l.fn.first.line l.states l.ids l.initial.views l.views l.cursor.0 l.cursor.1.0 l.k
+invariant-loop-k l = At l.sheet.text.now l.fn.first.at l.fn.first.line l.states l.ids.ids.now l.initial.views l.views l.cursor.0 l.cursor.1.0 l.k

@@ -1,22 +1,13 @@
 -- `sheet::self_arrows` meets its contract: the first `k` boxes have theirs. Assumes nothing.
-use Prim.Native.Nat.{ℕ}
 use mathlib.Core.Path.{◌≡◌, refl, ap, ◌∙◌}
 use native.Mathlib.Omega.{arith}
 use native.Mathlib.Numerals.{add-one}
-use lib.ListN.{length, replicate, length-replicate}
-use Rattle.model.specs.Limits.{BOXES}
 use Rattle.model.specs.Arrows.{drawn, selves}
-use Rattle.model.proofs.Arrows.{selves_length}
 use Rattle.sheet.proofs.phases.self_arrows.Goals as goal
 
 pub loop-k-init : goal.loop-k-init
 unfolding selves
 loop-k-init c = refl
-
-pub draw-requires : goal.draw-requires
-draw-requires c =
-    let l = c.loop-k in
-    (ap length l.invariant ∙ selves_length l.k (replicate BOXES 0) ∙ length-replicate {A = ℕ} BOXES 0, omega arith, omega arith)
 
 pub loop-k-preserved : goal.loop-k-preserved
 unfolding selves

@@ -7,19 +7,7 @@ use Rattle.zarpalume.proofs.lines.put_depths.Goals as goal
 
 pub boxes-init : goal.boxes-init
 unfolding depth_lines
-boxes-init c = (omega arith, growing_none _)
-
-pub overflow_cast-depth : goal.overflow_cast-depth
-overflow_cast-depth c = let h = c.requires.by_index c.boxes.u in omega arith
+boxes-init c = growing_none _
 
 pub boxes-preserved : goal.boxes-preserved
-boxes-preserved c =
-    let g = c.boxes in
-    (omega arith, depth_more _ _ _ _ g.invariant.1 (omega arith) c.put_pair-at.ensures.0 c.put_pair-at.ensures.1 c.id-id.ensures)
-
-pub returns : goal.returns
-returns c =
-    let g = c.boxes.invariant in
-    let e : c.boxes.u ≡ c.args.boxes = omega arith in
-    let o = g.1.bound in
-    (rw e at g.1.written, omega arith)
+boxes-preserved c = depth_more _ _ _ _ c.boxes.invariant (omega arith) c.put_pair-at.ensures.0 c.put_pair-at.ensures.1 c.id-id.ensures

@@ -5,7 +5,4 @@ use Rattle.zarpalume.proofs.Writing.{Growing}
 use Rattle.zarpalume.proofs.lines.put_depths.Given as goal
 
 abbrev pub invariant-boxes : goal.invariant-boxes
-invariant-boxes l = (l.u ≤ l.boxes) × Growing l.initial.tail l.tail l.at (depth_lines l.model.ids l.depths l.u) (28 * l.u)
-
-abbrev pub decreases-boxes : goal.decreases-boxes
-decreases-boxes l = l.boxes - l.u
+invariant-boxes l = Growing l.initial.tail l.tail l.at (depth_lines l.model.ids l.depths l.u) (28 * l.u)

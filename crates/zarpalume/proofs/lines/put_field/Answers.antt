@@ -7,9 +7,6 @@ use Rattle.zarpalume.proofs.lines.put_field.Goals as goal
 pub bounds-tail-n : goal.bounds-tail-n
 bounds-tail-n c = let w = number_whole _ (search rules) c.put_number-n.ensures in let n = w.1 in omega arith
 
-pub overflow_add-result : goal.overflow_add-result
-overflow_add-result c = let w = number_whole _ (search rules) c.put_number-n.ensures in let n = w.1 in omega arith
-
 pub returns : goal.returns
 returns c =
     let w = number_whole _ (search rules) c.put_number-n.ensures in

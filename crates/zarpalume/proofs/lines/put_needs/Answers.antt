@@ -7,19 +7,9 @@ use Rattle.zarpalume.proofs.lines.put_needs.Goals as goal
 
 pub pairs-init : goal.pairs-init
 unfolding need_lines
-pairs-init c = (omega arith, growing_none _)
+pairs-init c = growing_none _
 
 pub pairs-preserved : goal.pairs-preserved
 pairs-preserved c =
-    let g = c.pairs in (
-      omega arith,
-      need_more _ _ _ _ _ g.invariant.1 (omega arith) c.put_pair-at.ensures.0 c.put_pair-at.ensures.1
-          c.at.ensures c.id-source.ensures c.at-in-pairs.ensures c.id-target.ensures,
-    )
-
-pub returns : goal.returns
-returns c =
-    let g = c.pairs.invariant in
-    let e : c.pairs.k ≡ c.args.count = omega arith in
-    let o = g.1.bound in
-    (rw e at g.1.written, omega arith)
+    need_more _ _ _ _ _ c.pairs.invariant (omega arith) c.put_pair-at.ensures.0 c.put_pair-at.ensures.1
+    c.at.ensures c.id-source.ensures c.at-in-pairs.ensures c.id-target.ensures

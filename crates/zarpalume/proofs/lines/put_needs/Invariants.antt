@@ -5,7 +5,4 @@ use Rattle.zarpalume.proofs.Writing.{Growing}
 use Rattle.zarpalume.proofs.lines.put_needs.Given as goal
 
 abbrev pub invariant-pairs : goal.invariant-pairs
-invariant-pairs l = (l.k ≤ l.count) × Growing l.initial.tail l.tail l.at (need_lines l.model.ids l.list l.k) (27 * l.k)
-
-abbrev pub decreases-pairs : goal.decreases-pairs
-decreases-pairs l = l.count - l.k
+invariant-pairs l = Growing l.initial.tail l.tail l.at (need_lines l.model.ids l.list l.k) (27 * l.k)

@@ -1,6 +1,6 @@
 -- `needs::outputs::OutputsLikeness::slot` meets its contract.
-use Rattle.std.proofs.Common.{◌∙◌, ap, arith, refl}
-use Rattle.needs.proofs.Starting.{slot_begun, slot_more, slot_bound, slot_all}
+use Rattle.std.proofs.Common.{arith}
+use Rattle.needs.proofs.Starting.{slot_begun, slot_more, slot_bound}
 use Rattle.needs.proofs.outputs.OutputsLikeness.slot.Goals as goal
 
 pub actions-init : goal.actions-init

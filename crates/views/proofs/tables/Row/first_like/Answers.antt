@@ -1,15 +1,13 @@
 -- `views::tables::Row::first_like` meets its contract. Assumes nothing.
-use Rattle.views.proofs.Lows.{unlike_none, unlike_more, least_found, least_self}
+use Rattle.std.proofs.Common.{◌≡◌, rules, tests}
+use Rattle.std.proofs.lemmas.Iterator.{first_from_Range}
+use Rattle.views.specs.Guards.{class_at}
+use Rattle.views.proofs.Lows.{least_of}
 use Rattle.views.proofs.tables.Row.first_like.Goals as goal
 
-pub earlier-init : goal.earlier-init
-earlier-init c = unlike_none _ _ _ _
-
-pub returns-then-class : goal.returns-then-class
-returns-then-class c = least_found c.earlier.invariant c.earlier-test.true c.class.ensures c.class-in-earlier.ensures c.if-class.true
-
-pub earlier-preserved : goal.earlier-preserved
-earlier-preserved c = unlike_more c.earlier.invariant c.class.ensures c.class-in-earlier.ensures c.if-class.false
-
 pub returns : goal.returns
-returns c = least_self c.earlier.invariant c.earlier-test.false
+returns c =
+    let r = c.args.self.now in
+    rw c.unwrap_or.ensures
+    (least_of c.find.result (first_from_Range _ _ _ _ (λ k. class_at r.states r.views.now r.u k ≡ class_at r.states r.views.now r.u c.args.s)
+    (λ k. class_at r.states r.views.now r.u k ≡ class_at r.states r.views.now r.u c.args.s → ⊥) c.find.ensures.ran (λ x q k. search (rules, tests)) (λ x q k. search (rules, tests))))

@@ -6,4 +6,4 @@ pub actions-init : goal.actions-init
 actions-init c = kept_none _ _ _ _
 
 pub note_idle-requires-clause-idle : goal.note_idle-requires-clause-idle
-note_idle-requires-clause-idle c = c.stirs.ensures c.if-stirs.false
+note_idle-requires-clause-idle c = c.is_idle.ensures c.if-is_idle.true

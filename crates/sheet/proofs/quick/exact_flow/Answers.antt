@@ -1,9 +1,0 @@
--- `sheet::quick::exact_flow` meets its contract. Assumes nothing.
-use Rattle.std.proofs.Common.{sym, ◌∙◌, arith}
-use Rattle.text.proofs.Parts.{end_within, line_found}
-use Rattle.sheet.proofs.quick.exact_flow.Goals as goal
-
-pub slice_bounds-flow_line-end : goal.slice_bounds-flow_line-end
-slice_bounds-flow_line-end c =
-    let p = line_found c.args.text.now c.args.cursor.at _ (sym c.line_from.ensures ∙ c.in-Some.is) in
-    omega (arith, p, end_within c.args.text.now 10 c.args.cursor.at (omega (arith, p)))
