@@ -21,7 +21,7 @@ const NOTHING: Needs = Needs {
     depths: [0; BOXES],
 };
 
-// The lines of a verdict, each into the rest of the buffer.
+// The lines of a verdict, each into the rest of the buffer, which is why the buffer is a slice.
 fn put_lines(
     verdict: &mut [u8],
     model: &Model,
