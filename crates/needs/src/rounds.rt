@@ -186,6 +186,7 @@ pub(crate) fn still(
 }
 
 // The class numbers of the next round, and whether each state that counts has its old one.
+// A flag beside them and no `Option`: the contract says what the numbers are in either case.
 #[derive(Clone, Copy)]
 pub(crate) struct Rounded {
     pub(crate) numbers: [u8; STATES],
