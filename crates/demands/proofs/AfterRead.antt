@@ -1,5 +1,6 @@
 -- After a good read the judge and the needed-arrow call refuse nothing, and the verdict's bytes are the rows of what is told.
 -- Assumes nothing.
+use Rattle.std.specs.Prelude.{Ok}
 use mathlib.Core.Path.{◌≡◌, refl, sym, ap, ap₂, ◌∙◌}
 use mathlib.Core.Logic.{◌↔◌, inl, inr}
 use mathlib.Core.Bool.{true}
@@ -109,8 +110,8 @@ module _ (t : List ℕ) {z : Sizes} {p : Parts} (e : sheet_text t ≡ model z p)
   pub judge_answers : judgement_of m next outputs views ≡ answer found
   judge_answers = judged_is m next outputs views lengths fits
 
-  pub needed_answers : verdicts.found (needed_of m.machine next outputs blank) ≡ found_in M
-  needed_answers = ap verdicts.found (demand_3 m.machine next outputs blank lent table_fits).0
+  pub needed_answers : needed_of m.machine next outputs blank ≡ Ok (found_in M)
+  needed_answers = (demand_3 m.machine next outputs blank lent table_fits).0
 
   pub list_written : list_of m.machine next outputs blank ≡ padded (needed_list M)
   list_written = list_found m.machine next outputs blank lent table_fits
@@ -128,18 +129,18 @@ module _ (t : List ℕ) {z : Sizes} {p : Parts} (e : sheet_text t ≡ model z p)
   need_lines_lem : need_lines m.ids (list_of m.machine next outputs blank) (verdicts.found (needed_of m.machine next outputs blank)).count ≡ text (pair_rows words.need arrows)
   unfolding padded
   need_lines_lem =
-      ap₂ (λ l n. need_lines m.ids l n.count) list_written needed_answers
+      ap₂ (λ l n. need_lines m.ids l n.count) list_written (ap verdicts.found needed_answers)
       ∙ needs_text m.ids (replicate (LIST_ENTRIES - 2 * length (needed_list M)) 0) (needed_list M)
 
   depth_lines_lem : depth_lines m.ids (verdicts.found (needed_of m.machine next outputs blank)).depths z.boxes ≡ text (pair_rows words.depth depths)
   depth_lines_lem =
-      ap (λ n. depth_lines m.ids n.depths z.boxes) needed_answers
+      ap (λ n. depth_lines m.ids n.depths z.boxes) (ap verdicts.found needed_answers)
       ∙ depths_text m.ids (depths_of M) (depth_of M) z.boxes
       (λ u l. depth_at M (closed m.machine next outputs good.0) (owned m.machine next outputs good.0.machine) good.0.machine.sizes.boxes_most u l)
 
   reach_line_lem : reach_line (verdicts.found (needed_of m.machine next outputs blank)).reach ≡ text (reach_row reach ∷ [])
   unfolding text reach_row
-  reach_line_lem = ap (λ n. reach_line n.reach) needed_answers ∙ sym (append-nil (reach_line reach))
+  reach_line_lem = ap (λ n. reach_line n.reach) (ap verdicts.found needed_answers) ∙ sym (append-nil (reach_line reach))
 
   pub said : verdict_of m next outputs views ≡ text (rows_of (told_of m next outputs views))
   unfolding verdict_of rows_of told_of text

@@ -31,7 +31,7 @@ use Rattle.demands.specs.Calls.{Bytes, Table, Calls}
 use Rattle.demands.specs.Refusals.{ThreeTables, TablesAndList, GoodModel, Question, Refusal, TableRefusal, TextRefusal, LabelRefusal, left}
 use Rattle.demands.specs.Told.{told}
 
--- Demand 1: bad input, and no other, gets its refusal's number and line; every other number is then 0, and the lent buffers are as said
+-- Demand 1: bad input, and no other, gets its refusal and line, and the lent buffers are as said
 pub record Demand1 (calls : Calls) : Type 0 where
   pub read : (t : Bytes) (next outputs views : Table) (n : named.Refusal) (l : ℕ) →
       TextRefusal (ThreeTables next outputs views) t n l ↔ ((calls.read t next outputs views).answer ≡ Err (refused_as n l))

@@ -89,7 +89,7 @@ fn verdict(request: &mut Request<'_>, answer: &mut Answer) -> Option<()> {
     answer.bytes(&verdict[..length])
 }
 
-// The request's letter says which call. None where the request is not whole, breaks the layout, or its answer has no room.
+// The request's letter, a byte of the format, says which call. None where the request is not whole, breaks the layout, or its answer has no room.
 pub(crate) fn answer(request: &mut Request<'_>, answer: &mut Answer) -> Option<()> {
     match request.n1()? {
         b'R' => read(request, answer),

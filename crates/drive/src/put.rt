@@ -123,7 +123,7 @@ impl Answer {
         Some(())
     }
 
-    // The first broken place; for output the box is the action's.
+    // The first broken place, its condition by the format's number; for output the box is the action's.
     pub(crate) fn judged(&mut self, judged: Result<(), Fault>, model: &Model) -> Option<()> {
         let (refused, condition, place) = match judged {
             Ok(()) => (None, 0, [0usize; 4]),

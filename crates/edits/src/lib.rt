@@ -28,7 +28,7 @@ pub const UNDO: u32 = 5;
 
 pub const DROP: u32 = 6;
 
-// A box, with live 1; or no box, all zero. Bit u of arrows: an arrow to the box at position u.
+// The C interface: a box, with live 1; or no box, all zero. Bit u of arrows: an arrow to the box at position u.
 #[repr(C)]
 #[derive(Clone, Copy, Default, PartialEq, Eq)]
 pub struct BoxRecord {

@@ -109,7 +109,7 @@ impl Machine {
     pub fn owner(&self, action: usize) -> usize
         ensures { result ≡ owner_at self.now action }
     {
-        usize::from(self.owners.get(action).copied().unwrap_or(0))
+        owner(&self.owners, action)
     }
 }
 
@@ -128,14 +128,14 @@ impl Model {
     pub fn id(&self, position: usize) -> u32
         ensures { result ≡ get_or self.now.ids position 0 }
     {
-        self.ids.get(position).copied().unwrap_or(0)
+        id(&self.ids, position)
     }
 
     // Whether an arrow leads from one box to another, none from beyond the rows.
     pub fn arrow(&self, source: usize, target: usize) -> bool
         ensures { result ≡ leads self.now.arrows source target }
     {
-        contains(self.arrows.get(source).copied().unwrap_or(0), target)
+        arrow(&self.arrows, source, target)
     }
 }
 
@@ -146,9 +146,30 @@ pub fn at(table: &[u16], index: usize) -> usize
     usize::from(table.get(index).copied().unwrap_or(0))
 }
 
+// The box of an action, 0 beyond the end of the list.
+pub fn owner(owners: &[u8], action: usize) -> usize
+    ensures { result ≡ get_or owners.now action 0 }
+{
+    usize::from(owners.get(action).copied().unwrap_or(0))
+}
+
+// The id of a box, 0 beyond the end of the list.
+pub fn id(ids: &[u32], position: usize) -> u32
+    ensures { result ≡ get_or ids.now position 0 }
+{
+    ids.get(position).copied().unwrap_or(0)
+}
+
 // Whether a number is in a set of numbers below the width of a word.
 pub fn contains(set: u32, member: usize) -> bool
     ensures { result ≡ has set member }
 {
     member < 32 && (set >> member) % 2 == 1
+}
+
+// Whether an arrow leads from one box to another, none from beyond the rows.
+pub fn arrow(arrows: &[u32], source: usize, target: usize) -> bool
+    ensures { result ≡ leads arrows.now source target }
+{
+    contains(arrows.get(source).copied().unwrap_or(0), target)
 }

@@ -59,6 +59,7 @@ struct Refinement {
     rounds: usize,
 }
 
+// `Known` and `Befores` are clauses: they tie flags that are lent beside the tables to them.
 fn refine(
     tables: &Tables<'_>,
     inside: &[bool; STATES],

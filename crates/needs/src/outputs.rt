@@ -12,7 +12,7 @@ use crate::likeness::{Likeness, first_alike};
 use crate::starts::SLOTS;
 use model::{ACTIONS, Machine, STATES};
 
-// The number of no state.
+// The number of no state, in tables of bytes: an `Option` in each place would double them (fixed memory).
 pub(crate) const NO_STATE: u8 = STATES as u8;
 
 // The actions of a box, the first `count` of the list.
@@ -42,7 +42,6 @@ pub(crate) fn own_actions(machine: &Machine, u: usize) -> Own
         if machine.owner(a) == u {
             list[count] = a as u8;
             count += 1;
-            continue 'actions;
         }
     }
     Own { list, count }

@@ -130,6 +130,7 @@ pub(crate) fn speaks(inside: &[bool; STATES], marks: &[bool; STATES], s: usize) 
 }
 
 // Looks for the next class number of s. The kept part of a class is that of its first unmarked state that counts, and until there is one that of its first state.
+// Its tables are parameters, and their facts clauses: each changes on the way, and is tied to `classes`, which is lent beside it.
 pub(crate) fn place(
     classes: &Classes<'_, '_>,
     inside: &[bool; STATES],
@@ -185,6 +186,7 @@ pub(crate) fn still(
 }
 
 // The class numbers of the next round, and whether each state that counts has its old one.
+// A flag beside them and no `Option`: the contract says what the numbers are in either case.
 #[derive(Clone, Copy)]
 pub(crate) struct Rounded {
     pub(crate) numbers: [u8; STATES],

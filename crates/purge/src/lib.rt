@@ -11,7 +11,7 @@ ghost use Rattle.purge.specs.Sets.{marked, touches, present};
 use model::{BOXES, Kind, Machine, Model, RUN_ACTIONS, Refusal, Refused};
 use std::array;
 
-// What is written for an action that is dropped, and to the end of the buffer.
+// What is written, as `purged_of` has it, for an action that is dropped, and to the end of the buffer.
 const DROPPED: u8 = 255;
 
 // The boxes that interfere with box u.

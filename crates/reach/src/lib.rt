@@ -31,6 +31,7 @@ impl Set {
 }
 
 // The states that are entered, each once, in this order: the first `done` of them are looked at, too.
+// `Explored` and `GoodTable` are clauses: they tie it to a machine and its table, which are lent beside it.
 #[derive(Clone, Copy)]
 struct Worklist {
     flags: [bool; STATES],

@@ -14,6 +14,7 @@ fn line_start(sheet: Sheet<'_>, index: usize) -> usize
     ensures { result ≡ line_start index sheet.entry.text.now }
 {
     let mut at = 0;
+    // k is a count of lines, which the invariant names
     for k in 0..index {
         at = text::find(sheet.text, at, b'\n') + 1;
     }

@@ -13,6 +13,7 @@ fn numbers_from(line: &[u8], from: usize, limits: &[u32]) -> Result<Numbers, Ref
     ensures { result ≡ numbers limits.now (fields_at line.now from) }
 {
     let mut values = [0u32; 4];
+    // no `?` at a bad number: a wrong count of fields is told before it
     let mut good = true;
     let mut at = from;
     for (k, limit) in limits.iter().enumerate() {

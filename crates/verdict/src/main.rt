@@ -13,6 +13,7 @@ fn read_input<R: Read>(reader: &mut R, input: &mut [u8]) -> io::Result<usize>
     ensures { IfOk result (λ count. count ≤ length input.new) }
 {
     let mut count = 0;
+    // it ends by what comes, and counts no index
     'pieces: while count < input.len() {
         match reader.read(&mut input[count..])? {
             0 => return Ok(count),

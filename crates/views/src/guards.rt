@@ -1,5 +1,6 @@
 // What spares the judge its loops over states and pairs of states. Guards read the table of first alike states.
 // Loops go by number: a box, an action and a state together pick the entries of several flat tables (`u * STATES + s`, `s * actions + a`).
+// `Kept` and `Alones` are clauses: each ties a table that is noted on the way to the `Tables` that are lent beside it.
 ghost use Rattle.std.specs.Prelude.{◌≡◌, true, false, ◌+◌, ◌*◌, ◌<◌, ◌≤◌, get_or};
 ghost use Rattle.model.specs.Limits.{STATES, ACTIONS, BOXES};
 ghost use Rattle.views.specs.Guards.{SPOTS, low_at, sent, spot, Idle, Keeps, Kept, Alones, alone_in, strong_in, quiet_in, Links, Calm};

@@ -14,14 +14,14 @@ use model::{BOXES, Model, Refused};
 use needs::Needs;
 use views::Fault;
 
-// What the needed-arrow call finds where it is refused.
+// What is written of needed arrows if that call were refused, which it can't be after a good read.
 const NOTHING: Needs = Needs {
     count: 0,
     reach: 0,
     depths: [0; BOXES],
 };
 
-// The lines of a verdict, each into the rest of the buffer.
+// The lines of a verdict, each into the rest of the buffer, which is why the buffer is a slice.
 fn put_lines(
     verdict: &mut [u8],
     model: &Model,
@@ -65,7 +65,7 @@ fn put_refusal(verdict: &mut [u8], refused: Refused) -> usize
     lines::put_pair(verdict, b"refused\t", number, refused.line as u32)
 }
 
-// The verdict on a sheet, into a buffer of exactly VERDICT_BYTES, with zeros after it; any other buffer is left alone, and 0 answered.
+// The verdict on a sheet, into a buffer of exactly VERDICT_BYTES, with zeros after it; any other buffer is left alone, and 0 answered, which the C interface keeps.
 pub fn zarpalume_verdict(sheet: &[u8], verdict: &mut [u8]) -> usize
     ensures { call result verdict.new ≡ call_of sheet.now verdict.old }
 {
