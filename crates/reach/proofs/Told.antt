@@ -2,12 +2,13 @@
 -- Assumes nothing.
 use mathlib.Core.Path.{◌≡◌}
 use mathlib.Core.Bool.{true, false}
-use mathlib.Core.List.{List}
+use mathlib.Core.List.{List, [], ◌∷◌}
 use Prim.Native.Nat.{ℕ}
 use lib.Dec.{eqb}
 use lib.ListN.{length}
 use borrow.Author.Tests.{eqb-true, eqb-false}
 use Rattle.std.specs.Prelude.{Ok, Err}
+use Rattle.laws.specs.Choice.{choose}
 use Rattle.laws.proofs.Tests.{by_test}
 use Rattle.model.specs.Limits.{NEXT_ENTRIES}
 use Rattle.model.specs.Refused.{machine_table_fits}
@@ -16,7 +17,7 @@ use Rattle.model.specs.declared.Machine.{Machine}
 use Rattle.model.specs.declared.refusal.Refusal.TheVariants.{Rules}
 use Rattle.model.specs.declared.refusal.Refused.{Refused}
 use Rattle.reach.specs.Set.{listed}
-use Rattle.reach.specs.Answered.{flags_of, set_of, answer_of}
+use Rattle.reach.specs.Answered.{told, flags_of, set_of, answer_of}
 use Rattle.reach.specs.declared.Set.{Set}
 use Rattle.reach.proofs.Answered.{refused_length, refused_rules, found}
 
@@ -42,3 +43,12 @@ refused_breaks m next r e o =
     by_test (machine_table_fits m next)
     (λ f. let h = found m next e f in cc)
     (λ f. (f, (let h = refused_rules m next e f in cc)))
+
+-- the refusal's number and line, 0 and 0 where nothing is refused
+pub told_reached : (m : Machine) (next : List ℕ) →
+    told (answer_of m next) ≡ choose (eqb (length next) NEXT_ENTRIES) (choose (machine_table_fits m next) (0 ∷ 0 ∷ []) (12 ∷ 0 ∷ [])) (10 ∷ 0 ∷ [])
+unfolding answer_of choose
+told_reached m next =
+    by_test (eqb (length next) NEXT_ENTRIES)
+    (λ e. by_test (machine_table_fits m next) (λ f. rw (e, f)) (λ f. rw (e, f)))
+    (λ e. rw e)

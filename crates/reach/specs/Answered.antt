@@ -1,17 +1,22 @@
 -- What `reached` answers.
-use Rattle.std.specs.Prelude.{Bool, List, ℕ, eqb, ltb, length, Result, Ok, Err}
+use Rattle.std.specs.Prelude.{Bool, List, [], ◌∷◌, ℕ, eqb, ltb, length, Result, Ok, Err}
 use Rattle.laws.specs.Choice.{both, choose}
 use Rattle.laws.specs.Range.{tabulate}
 use Rattle.noninterference.specs.Reached.{reached}
 use Rattle.model.specs.Limits.{STATES, NEXT_ENTRIES}
 use Rattle.model.specs.Refused.{machine_table_fits}
-use Rattle.model.specs.Refusal.{refused_as}
+use Rattle.model.specs.Refusal.{number_of, refused_as}
 use Rattle.model.specs.declared.Machine.{Machine}
 use Rattle.model.specs.declared.refusal.Refusal.TheVariants.{Length, Rules}
 use Rattle.model.specs.declared.refusal.Refused.{Refused}
 use Rattle.reach.specs.Explored.{moving}
 use Rattle.reach.specs.Set.{of_flags}
 use Rattle.reach.specs.declared.Set.{Set}
+
+-- the numbers that an answer stands for: of the refusal, and its line
+abbrev pub told : Result Set Refused → List ℕ
+told (Ok set) = 0 ∷ 0 ∷ []
+told (Err refused) = number_of refused.refusal ∷ refused.line ∷ []
 
 -- the reachable states, and none where the call is refused
 unfoldable pub flags_of : Machine → List ℕ → List Bool

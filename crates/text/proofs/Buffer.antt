@@ -1,7 +1,14 @@
 -- Laws of writing at the front of a buffer. Assumes nothing.
-use Rattle.std.proofs.Common.{◌≡◌, ℕ, ◌+◌, ◌-◌, ◌≤◌, List, [], ◌++◌, length, take, drop, sym, refl, ap, ◌∙◌, append_assoc, append-nil, arith, length-append, length-drop, drop_of_length-le, take_all, drop-drop, take_at, drop_at, le-leb}
+use Rattle.std.proofs.Common.{◌≡◌, ℕ, suc, ◌+◌, ◌-◌, ◌<◌, ◌≤◌, List, [], ◌++◌, length, get_or, take, drop, set, sym, refl, ap, ◌∙◌, append_assoc, append-nil, add-one, arith, length-append, length-drop, drop_of_length-le, length-take-le, take_all, drop-cons, take-suc, drop-drop, take_at, drop_at, le-leb}
+use lib.Seq.{set_at}
 use borrow.Rule.Slice.PartMut.{put_mid}
 use Rattle.text.specs.Written.{Written, fitting}
+
+-- one more byte copied
+pub copy_more : (s b : List ℕ) (i : ℕ) → i < length s → i < length b → set (take i s ++ drop i b) i (get_or s i 0) ≡ take (i + 1) s ++ drop (i + 1) b
+copy_more s b i h g =
+    let e : length (take i s) ≡ i = length-take-le i s (omega arith) in
+    rw (add-one, drop-cons b i 0 g, set_at (take i s) (get_or b i 0) (drop (suc i) b) (get_or s i 0) i e, take-suc s i 0 h) (simp append_assoc)
 
 -- nothing written
 pub nothing : (b : List ℕ) → Written b b 0 []

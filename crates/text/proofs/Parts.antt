@@ -88,6 +88,27 @@ same_as [] (y ∷ ys) = refl
 same_as (x ∷ xs) [] = refl
 same_as (x ∷ xs) (y ∷ ys) = ap (λ t. eqb x y && t) (same_as xs ys)
 
+-- whether a word is the first field is told by as many bytes as it has, and one more
+word_in : (l w : List ℕ) (k : ℕ) → length w < k → same (take (before 9 (take k l)) (take k l)) w ≡ same (take (before 9 l) l) w
+unfolding before same
+word_in l w zero h = absurd (omega arith)
+word_in [] w (suc k) h = refl
+word_in (x ∷ xs) w (suc k) h = go w h (eqb x 9) (λ ys g. word_in xs ys k g)
+  where
+    go : (w : List ℕ) → length w < suc k → (t : Bool)
+        → ((ys : List ℕ) → length ys < k → same (take (before 9 (take k xs)) (take k xs)) ys ≡ same (take (before 9 xs) xs) ys)
+        → same (take (cond t 0 (suc (before 9 (take k xs)))) (x ∷ take k xs)) w ≡ same (take (cond t 0 (suc (before 9 xs))) (x ∷ xs)) w
+    go w h true r = refl
+    go [] h false r = refl
+    go (y ∷ ys) h false r = ap (λ t. eqb x y && t) (r ys (omega arith))
+
+pub head_same : (l w : List ℕ) (k : ℕ) → (k ≤ length w → length l ≤ k) → same (take (before 9 (take k l)) (take k l)) w ≡ same (field_from l 0) w
+head_same l w k h = go (dec_lt (length w) k)
+  where
+    go : Dec (length w < k) → same (take (before 9 (take k l)) (take k l)) w ≡ same (field_from l 0) w
+    go (yes g) = word_in l w k g
+    go (no g) = rw (take_all k l (h (omega arith))) refl
+
 module _ (s : List ℕ) (b i : ℕ) where
   -- the end, by the byte at a place
   pub end_here : i < length s → get_or s i 0 ≡ b → end_of b s i ≡ i

@@ -48,11 +48,11 @@ impl<'a> Reader<'a> {
         ensures { result ≡ line_from self.entry.text.now self.entry.at }
     {
         if self.at < self.text.len() {
-            let end = find(self.text, self.at, b'\n');
+            let lf = find(self.text, self.at, b'\n');
             Some(Line {
                 start: self.at,
-                end,
-                next: end + 1,
+                end: lf,
+                next: lf + 1,
             })
         } else {
             None
@@ -71,7 +71,9 @@ pub fn line_from(text: &[u8], at: usize) -> Option<Line>
 pub fn starts(line: &[u8], word: &[u8]) -> bool
     ensures { result ≡ same (slice_index_or (fields line.now) 0 []) word.now }
 {
-    &line[0..find(line, 0, b'\t')] == word
+    // no further than one byte behind the word: a line may be long
+    let head = &line[0..line.len().min(word.len() + 1)];
+    &head[0..find(head, 0, b'\t')] == word
 }
 
 // The value with one digit more.
@@ -155,7 +157,10 @@ pub fn put_bytes(tail: &mut [u8], bytes: &[u8]) -> usize
     if tail.len() < bytes.len() {
         return 0;
     }
-    tail[0..bytes.len()].copy_from_slice(bytes);
+    // not `copy_from_slice`, by which the archive for C asks for `memmove`
+    for (i, byte) in bytes.iter().enumerate() {
+        tail[i] = *byte;
+    }
     bytes.len()
 }
 

@@ -62,6 +62,7 @@ fn first_output(
     ensures { result ≡ answer (first_output (machine_of tables.now.model.now.machine [] outputs.now) every_state (view_of tables.now.model.now.machine tables.now.views.now)) }
 {
     let sizes = tables.model.machine.sizes;
+    let mut found = Ok(());
     'actions: for a in 0..sizes.actions {
         let o = tables.model.machine.owner(a);
         if tables.silent(outputs, alones, o, a) {
@@ -70,12 +71,13 @@ fn first_output(
         'firsts: for s in 0..sizes.states {
             'seconds: for t in s + 1..sizes.states {
                 if tables.leaks(outputs, o, a, s, t) {
-                    return Err(Fault::Output { action: a, s, t });
+                    found = Err(Fault::Output { action: a, s, t });
+                    break 'actions;
                 }
             }
         }
     }
-    Ok(())
+    found
 }
 
 // The first place that breaks respect, by box, action, state.
@@ -85,6 +87,7 @@ fn first_respect(tables: &Tables, kept: &mut [bool; KEPT]) -> Result<(), Fault>
     ensures first { result ≡ answer (first_respect (machine_of tables.now.model.now.machine tables.now.next.now []) every_state (policy_of tables.now.model.now) (view_of tables.now.model.now.machine tables.now.views.now)) }
 {
     let sizes = tables.model.machine.sizes;
+    let mut found = Ok(());
     'boxes: for u in 0..sizes.boxes {
         'actions: for a in 0..sizes.actions {
             let o = tables.model.machine.owner(a);
@@ -96,16 +99,17 @@ fn first_respect(tables: &Tables, kept: &mut [bool; KEPT]) -> Result<(), Fault>
             }
             'states: for s in 0..sizes.states {
                 if tables.moves(u, a, s) {
-                    return Err(Fault::Respect {
+                    found = Err(Fault::Respect {
                         position: u,
                         action: a,
                         s,
                     });
+                    break 'boxes;
                 }
             }
         }
     }
-    Ok(())
+    found
 }
 
 // The first place that breaks step, by box, action, s, t.
@@ -115,6 +119,7 @@ fn first_step(tables: &Tables, kept: &[bool; KEPT], alones: &[bool; BOXES]) -> R
     ensures { result ≡ answer (first_step intransitive (machine_of tables.now.model.now.machine tables.now.next.now []) every_state (view_of tables.now.model.now.machine tables.now.views.now)) }
 {
     let sizes = tables.model.machine.sizes;
+    let mut found = Ok(());
     let mut spots = [0u8; SPOTS];
     'boxes: for u in 0..sizes.boxes {
         if alones[u] {
@@ -128,18 +133,19 @@ fn first_step(tables: &Tables, kept: &[bool; KEPT], alones: &[bool; BOXES]) -> R
             'firsts: for s in 0..sizes.states {
                 'seconds: for t in s + 1..sizes.states {
                     if tables.tears(u, o, a, s, t) {
-                        return Err(Fault::Step {
+                        found = Err(Fault::Step {
                             position: u,
                             action: a,
                             s,
                             t,
                         });
+                        break 'boxes;
                     }
                 }
             }
         }
     }
-    Ok(())
+    found
 }
 
 // All of output before respect before step.

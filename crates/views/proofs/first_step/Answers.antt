@@ -1,5 +1,5 @@
 -- `views::first_step` meets its contract. Assumes nothing.
-use mathlib.Core.Path.{refl}
+use mathlib.Core.Path.{refl, ◌∙◌}
 use mathlib.Core.List.{[]}
 use native.Mathlib.Omega.{arith}
 use Rattle.noninterference.specs.Place.{step}
@@ -14,41 +14,45 @@ use Rattle.views.proofs.first_step.Goals as goal
 pub boxes-preserved-then-alones-u : goal.boxes-preserved-then-alones-u
 boxes-preserved-then-alones-u c =
     let k = c.args.tables.now in
-    passed_more _ _ c.boxes.invariant (alone_none k.good k.lows c.boxes-test.true (c.requires.alones.alone _ c.if-alones-u.true))
+    (c.boxes.invariant.0, passed_more _ _ c.boxes.invariant.1 (alone_none k.good k.lows c.boxes-test.true (c.requires.alones.alone _ c.if-alones-u.true)))
 
 pub actions-preserved-then-settled : goal.actions-preserved-then-settled
 actions-preserved-then-settled c =
-    let k = c.args.tables.now in
-    passed_more _ _ c.actions.invariant (calm_none k.good k.lows c.boxes-test.true c.actions-test.true c.owner-o.ensures
-    (c.settled.ensures c.if-settled.true))
+    let k = c.args.tables.now in (
+      c.actions.invariant.0,
+      passed_more _ _ c.actions.invariant.1 (calm_none k.good k.lows c.boxes-test.true c.actions-test.true c.owner-o.ensures
+          (c.settled.ensures c.if-settled.true)),
+    )
 
 pub seconds-init : goal.seconds-init
 seconds-init c = search (sweep, pairs_passed)
 
 pub seconds-preserved : goal.seconds-preserved
-seconds-preserved c =
-    passed_more _ _ c.seconds.invariant (when_rest _ (when_rest _ (when_no _ (told _ _ (rw
-    c.owner-o.ensures at c.tears.ensures) c.if-tears.false))))
+seconds-preserved c = (
+  c.seconds.invariant.0,
+  passed_more _ _ c.seconds.invariant.1 (when_rest _ (when_rest _ (when_no _ (told _ _ (rw
+      c.owner-o.ensures at c.tears.ensures) c.if-tears.false)))),
+)
 
 pub firsts-preserved : goal.firsts-preserved
 firsts-preserved c = search (sweep, when_rest)
 
 pub actions-preserved : goal.actions-preserved
-actions-preserved c = passed_more _ _ c.actions.invariant (first_of_none _ _ c.firsts-test.false c.firsts.invariant)
+actions-preserved c = search sweep
 
 pub boxes-preserved : goal.boxes-preserved
-boxes-preserved c = passed_more _ _ c.boxes.invariant (first_of_none _ _ c.actions-test.false c.actions.invariant)
+boxes-preserved c = search sweep
 
-pub returns : goal.returns
-returns c =
+pub returns-after-boxes : goal.returns-after-boxes
+returns-after-boxes c =
     let k = c.args.tables.now in
-    answer_none (step_is k.model.now.machine k.next.now [] k.views.now) (first_of_none _ _ c.boxes-test.false c.boxes.invariant)
+    c.boxes.invariant.0 ∙ answer_none (step_is k.model.now.machine k.next.now [] k.views.now) (first_of_none _ _ c.boxes-test.false c.boxes.invariant.1)
 
 pub returns-then-tears : goal.returns-then-tears
 unfolding answer
 returns-then-tears c =
     let k = c.args.tables.now in
-    answer_place (step _ _ _ _) (step_is k.model.now.machine k.next.now [] k.views.now) (first_of_hit _ _ _ _ c.boxes-test.true c.boxes.invariant
-    (first_of_hit _ _ _ _ c.actions-test.true c.actions.invariant (first_of_hit _ _ _ _ c.firsts-test.true c.firsts.invariant
-    (when_hit _ _ refl (first_of_hit _ _ _ _ c.seconds-test.true c.seconds.invariant (pair_hit c.firsts.s c.seconds.t _ _ (omega (arith, c.seconds.auto.t)) (when_hit _ _
+    answer_place (step _ _ _ _) (step_is k.model.now.machine k.next.now [] k.views.now) (first_of_hit _ _ _ _ c.boxes-test.true c.boxes.invariant.1
+    (first_of_hit _ _ _ _ c.actions-test.true c.actions.invariant.1 (first_of_hit _ _ _ _ c.firsts-test.true c.firsts.invariant.1
+    (when_hit _ _ refl (first_of_hit _ _ _ _ c.seconds-test.true c.seconds.invariant.1 (pair_hit c.firsts.s c.seconds.t _ _ (omega (arith, c.seconds.auto.t)) (when_hit _ _
     (told _ _ (rw c.owner-o.ensures at c.tears.ensures) c.if-tears.true) refl)))))))

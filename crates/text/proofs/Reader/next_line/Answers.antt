@@ -4,4 +4,4 @@ use Rattle.text.proofs.Parts.{end_within}
 use Rattle.text.proofs.Reader.next_line.Goals as goal
 
 pub overflow_add-result : goal.overflow_add-result
-overflow_add-result c = omega (arith, end_within c.args.self.text.now 10 c.args.self.at (omega arith), c.find-end.ensures)
+overflow_add-result c = omega (arith, end_within c.args.self.text.now 10 c.args.self.at (omega arith), c.find-lf.ensures)
